@@ -1,0 +1,3 @@
+pub mod Spellings
+pub mod Alphabets
+pub mod Words
