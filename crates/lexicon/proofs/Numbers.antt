@@ -120,3 +120,20 @@ lawful-push roll w lawful few size none =
           (cases-lt j (length roll)))
         (cases-lt i (length roll));
     }
+
+-- a word more at the end: a word that is found was found before, or is the new one
+pub number-from-only : (n : ℕ) (vs : List (List ℕ)) (v w : List ℕ) (m : ℕ) → number-from n (vs ++ v ∷ []) w ≡ Some m → (number-from n vs w ≡ Some m) ⊎ (w ≡ v)
+number-from-only n [] v w m e =
+    ⊎-elim
+    (λ same. inr (sym (sameBytes-decides v w .0 same)))
+    (λ other. absurd (let none : None ≡ Some m = sym (cond-false (sameBytes v w) (Some n) None other) ∙ e in let z : _≡_ {A = ℕ} 0 1 = cc in omega arith))
+    (cases-bool (sameBytes v w))
+number-from-only n (u ∷ vs) v w m e =
+    ⊎-elim
+    (λ same. inl (cond-true (sameBytes u w) (Some n) (number-from (suc n) vs w) same ∙ sym (cond-true (sameBytes u w) (Some n) (number-from (suc n) (vs ++ v ∷ []) w) same) ∙ e))
+    (λ other.
+      ⊎-elim
+      (λ before. inl (cond-false (sameBytes u w) (Some n) (number-from (suc n) vs w) other ∙ before))
+      (λ new. inr new)
+      (number-from-only (suc n) vs v w m (sym (cond-false (sameBytes u w) (Some n) (number-from (suc n) (vs ++ v ∷ []) w) other) ∙ e)))
+    (cases-bool (sameBytes u w))

@@ -9,6 +9,11 @@ use Rattle.std.proofs.shelf.Lists.{take-append-drop, set-split, take-at, drop-a
 use borrow.Rule.Slice.PartMut.{putMid}
 use Rattle.output.specs.Written.{written}
 
+-- what is written at the start reads back from there
+pub written-start : {X : Type 0} (out xs : List X) (n : ℕ) → length xs ≡ n → take n (written out 0 xs) ≡ xs
+unfolding written
+written-start out xs n long = take-at xs (drop (0 + length xs) out) n long
+
 module _ {X : Type 0} (out : List X) (at : ℕ) where
   pub written-none : written out at [] ≡ out
   unfolding written

@@ -1,7 +1,12 @@
 -- The number, the layer and the side of each refusal, and the refusal that each layer's fault leads to.
+use mathlib.Core.List.{List, _++_}
+use Prim.Native.Nat.{ℕ}
+use lib.Chars.{codes}
+use Rattle.std.specs.Written.{decimal}
+use Rattle.refusal.specs.declared.Layer.{Layer}
 use Rattle.refusal.specs.declared.Layer.the-variants.{Call, List as WordList, Table}
 use Rattle.refusal.specs.declared.Side.{Side}
-use Rattle.refusal.specs.declared.Side.the-variants.{Neither}
+use Rattle.refusal.specs.declared.Side.the-variants.{Neither, First, Second}
 use Rattle.refusal.specs.declared.Refusal.{Refusal}
 use Rattle.refusal.specs.declared.Refusal.the-variants.{WordLength, RelationZero, RecordUnsound, UnknownWord, NoRoom, TriplePresent, TripleAbsent, NoPlace, NumbersHeld, UnknownLink, OutputTooShort, MalformedLine}
 use Rattle.refusal.specs.declared.Report.{Report}
@@ -35,3 +40,19 @@ list-refusal NotSized side = WordLength side
 list-refusal NotHeld side = UnknownWord side
 list-refusal Full side = NoRoom side
 list-refusal Short side = OutputTooShort
+
+-- the number of a layer
+abbrev pub layer-number : Layer → ℕ
+layer-number Call = 1
+layer-number WordList = 2
+layer-number Table = 3
+
+-- the number of a side
+abbrev pub side-number : Side → ℕ
+side-number Neither = 0
+side-number First = 1
+side-number Second = 2
+
+-- a report as it is printed: number, layer and side
+abbrev pub report-text : Report → List ℕ
+report-text r = decimal (r .number) ++ (codes " " ++ (decimal (layer-number (r .layer)) ++ (codes " " ++ decimal (side-number (r .side)))))

@@ -5,7 +5,9 @@
 // The rules stand in docs/REFUSALS.md.
 ghost use mathlib.Core.Path.{_≡_};
 ghost use Rattle.refusal.specs.declared.Side.the-variants.{Neither};
-ghost use Rattle.refusal.specs.Reports.{report-of, spell-refusal, list-refusal};
+ghost use Rattle.refusal.specs.Reports.{report-of, report-text, spell-refusal, list-refusal};
+ghost use Rattle.std.specs.declared.option.Option.the-variants.{Some};
+use std::fmt;
 
 // The layer that refuses.
 #[derive(Clone, Copy, PartialEq, Eq, Debug)]
@@ -145,5 +147,17 @@ pub impl From<ListFault> for Refusal as RefusalFromList {
 
     fn from(e: ListFault) -> Refusal {
         e.at(Side::Neither)
+    }
+}
+
+// A report is printed as its number, its layer and its side, with one space between.
+pub impl fmt::Display for Report as ReportDisplay {
+    ghost shown = { λ r. Some (report-text r) };
+
+    fn fmt<W: fmt::Write>(&self, f: &mut fmt::Formatter<W>) -> fmt::Result {
+        let number = self.number;
+        let layer = self.layer as u8;
+        let side = self.side as u8;
+        write!(f, "{number} {layer} {side}")
     }
 }
