@@ -79,11 +79,11 @@ module _ {S : Type 0} (spelling : S → List ℕ) (before : List (List ℕ)) (ro
   grown-roll apart after grown absent = record {
     kept = λ v n e. ap (λ (r : List (List ℕ)). number-of r (spelled spelling v)) grown ∙ number-from-kept 1 before (spelled spelling word) (spelled spelling v) n e;
     only = λ v n e.
-      ⊎-elim (λ found. inl found) (λ same. inr (apart v word same))
-      (number-from-only 1 before (spelled spelling word) (spelled spelling v) n (sym (ap (λ (r : List (List ℕ)). number-of r (spelled spelling v)) grown) ∙ e));
+        ⊎-elim (λ found. inl found) (λ same. inr (apart v word same))
+        (number-from-only 1 before (spelled spelling word) (spelled spelling v) n (sym (ap (λ (r : List (List ℕ)). number-of r (spelled spelling v)) grown) ∙ e));
     entered =
-      ap (λ (r : List (List ℕ)). number-of r (spelled spelling word)) grown ∙ number-from-last 1 before (spelled spelling word) absent
-      ∙ ap (λ k. Some k) (let z : 1 + length before ≡ length before + 1 = omega arith in z);
+        ap (λ (r : List (List ℕ)). number-of r (spelled spelling word)) grown ∙ number-from-last 1 before (spelled spelling word) absent
+        ∙ ap (λ k. Some k) (let z : 1 + length before ≡ length before + 1 = omega arith in z);
   }
 
   by-cases : WordsApart spelling → (after : List (List ℕ)) (o : Option ℕ) (b : Bool) → number-of before (spelled spelling word) ≡ o
@@ -115,25 +115,25 @@ pub spelled-slice : {S : Type 0} (spelling : S → List ℕ) (word : List S) (ol
 spelled-slice spelling word old out size answer output bounds =
     ⊎-elim
     (λ fit.
-      let said : Ok size ≡ Ok (length w) = answer ∙ cond-true (word-sized word) (Ok (length w)) (Err TooLong) fit in
-      let long : length w ≡ size = cc in
-      let whole : length w ≡ size - 0 = omega arith in
-      record {
-        sized = fit;
-        labels = bounds-label w (omega (arith, bounds .0)) (omega (arith, bounds .1));
-        same = ap (take (size - 0)) (output ∙ cond-true (word-sized word) (written old 0 w) old fit) ∙ written-start old w (size - 0) whole;
-      })
+    let said : Ok size ≡ Ok (length w) = answer ∙ cond-true (word-sized word) (Ok (length w)) (Err TooLong) fit in
+    let long : length w ≡ size = cc in
+    let whole : length w ≡ size - 0 = omega arith in
+    record {
+      sized = fit;
+      labels = bounds-label w (omega (arith, bounds .0)) (omega (arith, bounds .1));
+      same = ap (take (size - 0)) (output ∙ cond-true (word-sized word) (written old 0 w) old fit) ∙ written-start old w (size - 0) whole;
+    })
     (λ misfit.
-      absurd (let said : Ok size ≡ Err TooLong = answer ∙ cond-false (word-sized word) (Ok (length w)) (Err TooLong) misfit in
-        let z : _≡_ {A = ℕ} 0 1 = cc in omega arith))
+    absurd (let said : Ok size ≡ Err TooLong = answer ∙ cond-false (word-sized word) (Ok (length w)) (Err TooLong) misfit in
+    let z : _≡_ {A = ℕ} 0 1 = cc in omega arith))
     (cases-bool (word-sized word))
   where
-  w : List ℕ
-  w = spelled spelling word
+    w : List ℕ
+    w = spelled spelling word
 
 -- what the call says, from what the list said
 module _ {S L : Type 0} (spelling : S → List ℕ) (roll : L → List (List ℕ)) (sound : L → Type 0) (room : L → List ℕ → Bool) (enters : L → List ℕ → L → Type 0)
-  (s : L) (word : List S) (t : L) where
+    (s : L) (word : List S) (t : L) where
   pub record Told (x : Result Entry Refusal) : Type 0 where
     pub answer : sound s → x ≡ entry-answer spelling (roll s) (room s (spelled spelling word)) word
     pub after : sound s → EnterLeaves roll sound enters s (spelled spelling word) t (word-sized word && is-new (roll s) (room s (spelled spelling word)) (spelled spelling word))
@@ -146,14 +146,14 @@ module _ {S L : Type 0} (spelling : S → List ℕ) (roll : L → List (List ℕ
   told apart slice fit count r counted answered left x from =
       let w = spelled spelling word in
       let answer : sound s → x ≡ entry-answer spelling (roll s) (room s w) word = λ ok.
-        from ∙ entry-is spelling (roll s) (room s w) word (fit .sized) (fit .labels) count (counted ok) r
-          (subst (λ (z : List ℕ). r ≡ enter-answer (roll s) (room s z) z) (fit .same) (answered ok)) in
+      from ∙ entry-is spelling (roll s) (room s w) word (fit .sized) (fit .labels) count (counted ok) r
+      (subst (λ (z : List ℕ). r ≡ enter-answer (roll s) (room s z) z) (fit .same) (answered ok)) in
       let leaves : sound s → EnterLeaves roll sound enters s w t (is-new (roll s) (room s w) w) = λ ok.
-        subst (λ (z : List ℕ). EnterLeaves roll sound enters s z t (is-new (roll s) (room s z) z)) (fit .same) (left ok) in
+      subst (λ (z : List ℕ). EnterLeaves roll sound enters s z t (is-new (roll s) (room s z) z)) (fit .same) (left ok) in
       record {
         answer = answer;
         after = λ ok. subst (λ (b : Bool). EnterLeaves roll sound enters s w t (b && is-new (roll s) (room s w) w)) (sym (fit .sized)) (leaves ok);
         numbers = λ ok.
-          keeps-numbers spelling (roll s) (room s w) word apart (fit .sized) (fit .labels) (roll t)
-          (roll-leaves roll sound enters s w t (is-new (roll s) (room s w) w) (leaves ok)) x (answer ok);
+            keeps-numbers spelling (roll s) (room s w) word apart (fit .sized) (fit .labels) (roll t)
+            (roll-leaves roll sound enters s w t (is-new (roll s) (room s w) w) (leaves ok)) x (answer ok);
       }

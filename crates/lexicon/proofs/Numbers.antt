@@ -36,14 +36,14 @@ number-from-some n [] w m e = absurd (let z : _≡_ {A = ℕ} 0 1 = cc in omega 
 number-from-some n (v ∷ vs) w m e =
     ⊎-elim
     (λ same.
-      let here : Some n ≡ Some m = sym (cond-true (sameBytes v w) (Some n) (number-from (suc n) vs w) same) ∙ e in
-      let at : n ≡ m = cc in
-      let none : m - n ≡ 0 = omega arith in
-      (omega arith, omega arith, subst (λ (k : ℕ). getD (v ∷ vs) k [] ≡ w) (sym none) (sameBytes-decides v w .0 same)))
+    let here : Some n ≡ Some m = sym (cond-true (sameBytes v w) (Some n) (number-from (suc n) vs w) same) ∙ e in
+    let at : n ≡ m = cc in
+    let none : m - n ≡ 0 = omega arith in
+    (omega arith, omega arith, subst (λ (k : ℕ). getD (v ∷ vs) k [] ≡ w) (sym none) (sameBytes-decides v w .0 same)))
     (λ other.
-      let later = number-from-some (suc n) vs w m (sym (cond-false (sameBytes v w) (Some n) (number-from (suc n) vs w) other) ∙ e) in
-      let next : m - n ≡ suc (m - suc n) = omega (arith, later .0) in
-      (omega (arith, later .0), omega (arith, later .0, later .1), subst (λ (k : ℕ). getD (v ∷ vs) k [] ≡ w) (sym next) (later .2)))
+    let later = number-from-some (suc n) vs w m (sym (cond-false (sameBytes v w) (Some n) (number-from (suc n) vs w) other) ∙ e) in
+    let next : m - n ≡ suc (m - suc n) = omega (arith, later .0) in
+    (omega (arith, later .0), omega (arith, later .0, later .1), subst (λ (k : ℕ). getD (v ∷ vs) k [] ≡ w) (sym next) (later .2)))
     (cases-bool (sameBytes v w))
 
 -- where none is found, the first word is another, and none is found further on
@@ -67,8 +67,8 @@ number-from-kept n (u ∷ vs) v w m e =
     ⊎-elim
     (λ same. cond-true (sameBytes u w) (Some n) (number-from (suc n) (vs ++ v ∷ []) w) same ∙ sym (cond-true (sameBytes u w) (Some n) (number-from (suc n) vs w) same) ∙ e)
     (λ other.
-      cond-false (sameBytes u w) (Some n) (number-from (suc n) (vs ++ v ∷ []) w) other
-      ∙ number-from-kept (suc n) vs v w m (sym (cond-false (sameBytes u w) (Some n) (number-from (suc n) vs w) other) ∙ e))
+    cond-false (sameBytes u w) (Some n) (number-from (suc n) (vs ++ v ∷ []) w) other
+    ∙ number-from-kept (suc n) vs v w m (sym (cond-false (sameBytes u w) (Some n) (number-from (suc n) vs w) other) ∙ e))
     (cases-bool (sameBytes u w))
 
 -- and the new one has the number after the last
@@ -89,12 +89,12 @@ number-some roll w m e = let found = number-from-some 1 roll w m e in (found .0,
 pub number-word : (roll : List (List ℕ)) (m : ℕ) → Lawful roll → 1 ≤ m → m ≤ length roll → number-of roll (word-of roll m) ≡ Some m
 number-word roll m lawful low high = by (number-of roll (word-of roll m)) refl
   where
-  by : (o : Option ℕ) → number-of roll (word-of roll m) ≡ o → o ≡ Some m
-  by None e = absurd (number-from-none 1 roll (word-of roll m) e (m - 1) (omega arith) refl)
-  by (Some k) e =
-      let found = number-some roll (word-of roll m) k e in
-      let same : k - 1 ≡ m - 1 = lawful .apart (k - 1) (m - 1) (omega (arith, found .0, found .1), omega arith, found .2) in
-      ap (λ i. Some i) (let z : k ≡ m = omega (arith, found .0) in z)
+    by : (o : Option ℕ) → number-of roll (word-of roll m) ≡ o → o ≡ Some m
+    by None e = absurd (number-from-none 1 roll (word-of roll m) e (m - 1) (omega arith) refl)
+    by (Some k) e =
+        let found = number-some roll (word-of roll m) k e in
+        let same : k - 1 ≡ m - 1 = lawful .apart (k - 1) (m - 1) (omega (arith, found .0, found .1), omega arith, found .2) in
+        ap (λ i. Some i) (let z : k ≡ m = omega (arith, found .0) in z)
 
 -- a new word of the right length keeps the roll lawful
 pub lawful-push : (roll : List (List ℕ)) (w : List ℕ) → Lawful roll → length roll < 65535 → label-sized w ≡ true → number-of roll w ≡ None → Lawful (roll ++ w ∷ [])
@@ -103,22 +103,22 @@ lawful-push roll w lawful few size none =
     record {
       few = omega arith;
       sized = λ k h.
-        ⊎-elim
-        (λ low. ap label-sized (getD-append-left roll (w ∷ []) [] k low) ∙ lawful .sized k low)
-        (λ high. let last : length roll ≡ k = omega arith in ap label-sized (getD-push roll w [] k last) ∙ size)
-        (cases-lt k (length roll));
+          ⊎-elim
+          (λ low. ap label-sized (getD-append-left roll (w ∷ []) [] k low) ∙ lawful .sized k low)
+          (λ high. let last : length roll ≡ k = omega arith in ap label-sized (getD-push roll w [] k last) ∙ size)
+          (cases-lt k (length roll));
       apart = λ i j alike. let hi = alike .0 in let hj = alike .1 in let e = alike .2 in
-        ⊎-elim
-        (λ li. ⊎-elim
+          ⊎-elim
+          (λ li. ⊎-elim
           (λ lj. lawful .apart i j (li, lj, sym (getD-append-left roll (w ∷ []) [] i li) ∙ e ∙ getD-append-left roll (w ∷ []) [] j lj))
           (λ gj. let last : length roll ≡ j = omega arith in
-            absurd (number-from-none 1 roll w none i li (sym (getD-append-left roll (w ∷ []) [] i li) ∙ e ∙ getD-push roll w [] j last)))
+          absurd (number-from-none 1 roll w none i li (sym (getD-append-left roll (w ∷ []) [] i li) ∙ e ∙ getD-push roll w [] j last)))
           (cases-lt j (length roll)))
-        (λ gi. let first : length roll ≡ i = omega arith in ⊎-elim
+          (λ gi. let first : length roll ≡ i = omega arith in ⊎-elim
           (λ lj. absurd (number-from-none 1 roll w none j lj (sym (getD-append-left roll (w ∷ []) [] j lj) ∙ sym e ∙ getD-push roll w [] i first)))
           (λ gj. omega arith)
           (cases-lt j (length roll)))
-        (cases-lt i (length roll));
+          (cases-lt i (length roll));
     }
 
 -- a word more at the end: a word that is found was found before, or is the new one
@@ -132,8 +132,8 @@ number-from-only n (u ∷ vs) v w m e =
     ⊎-elim
     (λ same. inl (cond-true (sameBytes u w) (Some n) (number-from (suc n) vs w) same ∙ sym (cond-true (sameBytes u w) (Some n) (number-from (suc n) (vs ++ v ∷ []) w) same) ∙ e))
     (λ other.
-      ⊎-elim
-      (λ before. inl (cond-false (sameBytes u w) (Some n) (number-from (suc n) vs w) other ∙ before))
-      (λ new. inr new)
-      (number-from-only (suc n) vs v w m (sym (cond-false (sameBytes u w) (Some n) (number-from (suc n) (vs ++ v ∷ []) w) other) ∙ e)))
+    ⊎-elim
+    (λ before. inl (cond-false (sameBytes u w) (Some n) (number-from (suc n) vs w) other ∙ before))
+    (λ new. inr new)
+    (number-from-only (suc n) vs v w m (sym (cond-false (sameBytes u w) (Some n) (number-from (suc n) (vs ++ v ∷ []) w) other) ∙ e)))
     (cases-bool (sameBytes u w))

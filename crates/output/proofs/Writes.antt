@@ -43,7 +43,7 @@ module _ {X : Type 0} (out : List X) (at : ℕ) where
         let e : written out at xs ≡ whole ++ rest = sym (append-assoc (take at out) xs rest) in
         let f : take (at + length xs) (whole ++ rest) ≡ whole = take-at whole rest _ front in
         let g : drop (at + length xs + length ys) (whole ++ rest) ≡ drop (at + length xs + length ys) out =
-          sym (drop-drop (length ys) (at + length xs) (whole ++ rest)) ∙ ap (drop (length ys)) (drop-at whole rest _ front) ∙ drop-drop (length ys) (at + length xs) out in
+        sym (drop-drop (length ys) (at + length xs) (whole ++ rest)) ∙ ap (drop (length ys)) (drop-at whole rest _ front) ∙ drop-drop (length ys) (at + length xs) out in
         ap (λ l. take (at + length xs) l ++ (ys ++ drop (at + length xs + length ys) l)) e
         ∙ ap (λ l. l ++ (ys ++ drop (at + length xs + length ys) (whole ++ rest))) f
         ∙ ap (λ l. whole ++ (ys ++ l)) g

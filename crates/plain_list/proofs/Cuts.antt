@@ -63,7 +63,7 @@ cut-write ns bs w fit =
 -- one step of a search: the word at the index i, which starts at `at`, or a later one
 pub search-step : (ns bs w : List ℕ) (i at : ℕ) → i < length ns
     → number-from (i + 1) (cut (drop i ns) (drop at bs)) w
-      ≡ cond (sameBytes (take (getD ns i 0) (drop at bs)) w) (Some (i + 1)) (number-from (i + 1 + 1) (cut (drop (i + 1) ns) (drop (at + getD ns i 0) bs)) w)
+    ≡ cond (sameBytes (take (getD ns i 0) (drop at bs)) w) (Some (i + 1)) (number-from (i + 1 + 1) (cut (drop (i + 1) ns) (drop (at + getD ns i 0) bs)) w)
 search-step ns bs w i at h =
     let n = getD ns i 0 in
     ap (λ (z : List ℕ). number-from (i + 1) (cut z (drop at bs)) w) (drop-more ns i 0 h)

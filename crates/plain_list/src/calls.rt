@@ -38,14 +38,14 @@ impl PlainList {
     pub fn bytes(&self) -> &[u8]
         ensures { λ r. ⌜ now r ≡ vec-items (now (self .entry) .bytes) ⌝ }
     {
-        self.bytes.as_slice()
+        &self.bytes
     }
 
     // The lengths, to look at: those of the words, and then what was there before.
     pub fn lengths(&self) -> &[u8]
         ensures { λ r. ⌜ now r ≡ vec-items (now (self .entry) .lengths) ⌝ }
     {
-        self.lengths.as_slice()
+        &self.lengths
     }
 
     // The number of the word, or none.

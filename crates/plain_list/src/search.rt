@@ -15,7 +15,7 @@ fn same(a: &[u8], b: &[u8]) -> bool
 }
 
 // The number of the word among the words of these lengths, or none.
-pub fn number_in(lengths: &[u8], bytes: &[u8], word: &[u8]) -> Option<usize>
+pub(super) fn number_in(lengths: &[u8], bytes: &[u8], word: &[u8]) -> Option<usize>
     requires { ⌜ sum (now lengths) ≤ length (now bytes) ⌝ }
     ensures { λ r. ⌜ r ≡ number-of (cut (now (lengths .entry)) (now (bytes .entry))) (now (word .entry)) ⌝ }
 {
@@ -31,7 +31,7 @@ pub fn number_in(lengths: &[u8], bytes: &[u8], word: &[u8]) -> Option<usize>
 }
 
 // Where the word at the index starts.
-pub fn start_of(lengths: &[u8], index: usize) -> usize
+pub(super) fn start_of(lengths: &[u8], index: usize) -> usize
     requires within { ⌜ index ≤ length (now lengths) ⌝ }
     requires fits { ⌜ sum (now lengths) < 2 ^ 64 ⌝ }
     ensures { λ r. ⌜ r ≡ sum (take index (now (lengths .entry))) ⌝ }

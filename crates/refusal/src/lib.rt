@@ -137,16 +137,16 @@ impl ListFault {
 pub impl From<SpellFault> for Refusal as RefusalFromSpell {
     ghost converts = { λ e r. r ≡ spell-refusal e Neither };
 
-    fn from(e: SpellFault) -> Refusal {
-        e.at(Side::Neither)
+    fn from(spell_fault: SpellFault) -> Refusal {
+        spell_fault.at(Side::Neither)
     }
 }
 
 pub impl From<ListFault> for Refusal as RefusalFromList {
     ghost converts = { λ e r. r ≡ list-refusal e Neither };
 
-    fn from(e: ListFault) -> Refusal {
-        e.at(Side::Neither)
+    fn from(list_fault: ListFault) -> Refusal {
+        list_fault.at(Side::Neither)
     }
 }
 

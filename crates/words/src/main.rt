@@ -18,6 +18,7 @@ use std::io::BufReader;
 
 // How many words and how many labels the list has places for.
 const WORD_PLACES: usize = 64;
+
 const LABEL_PLACES: usize = 1024;
 
 fn main(rt: LibcRuntime) -> io::Result<()> {

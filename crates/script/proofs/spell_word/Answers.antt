@@ -49,13 +49,14 @@ loop-symbol-again g c =
     let came : Some (c .unwrap-at .result) ≡ Some (l .at + length labels) = sym (c .unwrap-at .ensures) ∙ c .put .ensures .end ∙ cond-true _ _ _ fit in
     let end : c .unwrap-at .result ≡ l .at + length labels = cc in
     let after = c .put .ensures .after ∙ cond-true _ _ _ fit in
-    let place : l .at ≡ 0 + length front = omega (arith, l .inv .0) in
-    (omega (arith, end, l .inv .0, ap length step, length-append front (f x), ap length same),
+    let place : l .at ≡ 0 + length front = omega (arith, l .inv .0) in (
+      omega (arith, end, l .inv .0, ap length step, length-append front (f x), ap length same),
       omega (arith, end, wide, narrow .0, l .inv .1),
       omega (arith, end, wide, narrow .1, l .inv .2),
       after ∙ ap (written (l .out) (l .at)) same ∙ ap (λ z. written (l .out) z (f x)) place ∙ ap (λ z. written z (0 + length front) (f x)) (l .inv .3)
-      ∙ written-more out 0 front (f x) (omega (arith, l .inv .0, l .inv .2, few)) ∙ ap (written out 0) (sym step),
-      search needs)
+          ∙ written-more out 0 front (f x) (omega (arith, l .inv .0, l .inv .2, few)) ∙ ap (written out 0) (sym step),
+      search needs,
+    )
 
 pub returns : need.returns
 returns g c =

@@ -41,9 +41,10 @@ loop-i-again c =
     let bs = c .args .bytes .now in
     let w = c .args .word .now in
     let l = c .loop-i in
-    let other = sym (compared ns bs w (l .i) (l .at)) ∙ sym (c .same .ensures) ∙ c .if-same .left in
-    (omega (arith, sumBy-more (λ x. x) ns (l .i) 0 (c .loop-i-test .taken)),
-      sym (cond-false _ _ _ other) ∙ sym (search-step ns bs w (l .i) (l .at) (c .loop-i-test .taken)) ∙ l .inv .1)
+    let other = sym (compared ns bs w (l .i) (l .at)) ∙ sym (c .same .ensures) ∙ c .if-same .left in (
+      omega (arith, sumBy-more (λ x. x) ns (l .i) 0 (c .loop-i-test .taken)),
+      sym (cond-false _ _ _ other) ∙ sym (search-step ns bs w (l .i) (l .at) (c .loop-i-test .taken)) ∙ l .inv .1,
+    )
 
 pub returns : need.returns
 returns c =

@@ -18,14 +18,25 @@ ghost-self c =
     let long : length (c .put .last .out) ≡ s .bytes .len = omega (arith, c .put .kept .out, c .as-mut-slice .ensures .len) in
     let bytes = more-bytes s w new (c .put .last .out) (c .as-mut-slice .result .now) long (c .as-mut-slice .ensures .value) (c .put .ensures .after) in
     let roll = ap (cut (take (s .count + 1) (set (vec-items (s .lengths)) (s .count) (length w)))) bytes ∙ more-roll s w new in
-    let lawful = lawful-push (roll-of s) w (roll-lawful s) (omega (arith, new .few, length-roll s)) (new .sized) (new .absent) in
-    (omega (arith, new .place),
-      (more-sum s w new,
-        (omega (arith, new .fits),
-          (new .short,
-            (omega (arith, new .few),
-              (subst Sized (sym roll) (lawful .sized),
-                (subst Distinct (sym roll) (lawful .apart), tt)))))))
+    let lawful = lawful-push (roll-of s) w (roll-lawful s) (omega (arith, new .few, length-roll s)) (new .sized) (new .absent) in (
+      omega (arith, new .place),
+      (
+        more-sum s w new,
+        (
+          omega (arith, new .fits),
+          (
+            new .short,
+            (
+              omega (arith, new .few),
+              (
+                subst Sized (sym roll) (lawful .sized),
+                (subst Distinct (sym roll) (lawful .apart), tt),
+              ),
+            ),
+          ),
+        ),
+      ),
+    )
 
 pub returns : need.returns
 returns c =

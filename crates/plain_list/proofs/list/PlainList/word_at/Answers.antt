@@ -31,7 +31,7 @@ returns c =
     let all : s .count - 0 ≡ s .count = omega arith in
     let start : c .start-of-start .result ≡ sum (take (c .args .index) (counted s)) = cc (c .start-of-start .ensures) in
     let long : c .start-of-start .result + getD (c .as-slice-lengths .result .now) (c .args .index) 0 - c .start-of-start .result ≡ getD (vec-items (s .lengths)) (c .args .index) 0 =
-      let read : getD (c .as-slice-lengths .result .now) (c .args .index) 0 ≡ getD (vec-items (s .lengths)) (c .args .index) 0 = cc in
-      omega arith in
+    let read : getD (c .as-slice-lengths .result .now) (c .args .index) 0 ≡ getD (vec-items (s .lengths)) (c .args .index) 0 = cc in
+    omega arith in
     let reads = word-reads s (c .args .index) (c .pre) in
     cc
