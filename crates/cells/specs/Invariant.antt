@@ -6,11 +6,9 @@ use mathlib.Core.List.{List, []}
 use Prim.Native.Nat.{ℕ, _<_}
 use lib.IntN.{ℤ, pos}
 use lib.ListN.{length}
-use Rattle.std.specs.declared.option.Option.{Option}
-use Rattle.std.specs.declared.option.Option.the-variants.{Some, None}
 use Rattle.cells.specs.declared.Cell.{Cell}
-use Rattle.cells.specs.Cells.{free-cell, root-cell, at, parent, is-leaf, child-codes, some-code}
-use Rattle.cells.specs.Walking.{cell-at, path-to}
+use Rattle.cells.specs.Cells.{free-cell, at, parent, is-leaf, child-codes, some-code}
+use Rattle.cells.specs.Walking.{cell-at, is-found, path-to}
 use Rattle.cells.specs.Index.{Leads, Entered}
 
 -- cell 1, if there is one, is the root
@@ -27,7 +25,7 @@ Blank cs = (t : ℕ) → parent cs t ≡ 0 → at cs t ≡ free-cell
 
 -- climbing from a cell in use spells a path that leads to it
 abbrev pub Reached : List Cell → Type 0
-Reached cs = (t : ℕ) → 0 < parent cs t → cell-at cs (path-to cs t) ≡ Some t
+Reached cs = (t : ℕ) → 0 < parent cs t → is-found (cell-at cs (path-to cs t)) t ≡ true
 
 -- a cell in use, but for the root, is a leaf or has a child
 abbrev pub Ended : List Cell → Type 0

@@ -23,6 +23,11 @@ walk cs s (a ∷ more) = onward (child cs s a) (λ t. walk cs t more)
 abbrev pub cell-at : List Cell → List ℕ → Option ℕ
 cell-at cs p = cond (all-codes p) (walk cs 1 p) None
 
+-- whether t was found
+abbrev pub is-found : Option ℕ → ℕ → Bool
+is-found None t = false
+is-found (Some u) t = eqb u t
+
 -- the number of the leaf that the path leads to
 abbrev pub number-at : List Cell → List ℕ → Option ℕ
 number-at cs p = onward (cell-at cs p) (λ t. number (at cs t .base))
