@@ -1,0 +1,12 @@
+pub mod Changes
+pub mod Paths
+pub mod Renamings
+pub mod Pigeons
+pub mod Begins
+pub mod Counts
+pub mod Relocations
+pub mod Returns
+pub mod Edits
+pub mod Places
+pub mod Walks
+pub mod Lowests
