@@ -10,3 +10,5 @@ pub mod Edits
 pub mod Places
 pub mod Walks
 pub mod Lowests
+pub mod Climbs
+pub mod Leaves
