@@ -12,3 +12,5 @@ pub mod Walks
 pub mod Lowests
 pub mod Climbs
 pub mod Leaves
+pub mod Families
+pub mod Sounds
