@@ -17,3 +17,5 @@ pub mod Sounds
 pub mod Grows
 pub mod Numbers
 pub mod Enters
+pub mod Prunes
+pub mod TakesOut
