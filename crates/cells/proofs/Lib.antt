@@ -19,3 +19,4 @@ pub mod Numbers
 pub mod Enters
 pub mod Prunes
 pub mod TakesOut
+pub mod Undoes
