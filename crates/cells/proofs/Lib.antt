@@ -20,3 +20,5 @@ pub mod Enters
 pub mod Prunes
 pub mod TakesOut
 pub mod Undoes
+pub mod Tallies
+pub mod Starts
