@@ -22,3 +22,4 @@ pub mod TakesOut
 pub mod Undoes
 pub mod Tallies
 pub mod Starts
+pub mod Extends

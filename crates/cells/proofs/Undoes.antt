@@ -121,11 +121,11 @@ module _ (cs : List Cell) (is : List ℕ) (s a : ℕ) (q : List ℕ) (z : ℤ) (
       (omega (arith, long-m cs s a q (child-codes cs s) e z tree way fam new-code (h .1) (h .2), h .2 a (inl refl) .0)))
 
 -- m and the number of the codes
-abbrev steps : List ℕ → ℕ → ℕ
+abbrev pub steps : List ℕ → ℕ → ℕ
 steps [] m = suc m
 steps (b ∷ more) m = steps more (suc m)
 
-steps-is : (more : List ℕ) (m : ℕ) → steps more m ≡ suc (length more + m)
+pub steps-is : (more : List ℕ) (m : ℕ) → steps more m ≡ suc (length more + m)
 steps-is [] m = omega arith
 steps-is (b ∷ more) m = omega (arith, steps-is more (suc m))
 
@@ -207,7 +207,7 @@ module _ (cs : List Cell) (is : List ℕ) (s e : ℕ) (h : Tidy cs is) (used : 0
   base-m : at ms s .base ≡ pos e
   base-m = base-s cs ms s e (h .tree) used low-e m
 
-  codes-m : child-codes ms s ≡ codes
+  pub codes-m : child-codes ms s ≡ codes
   codes-m =
       sym (codes-same cs ms s 258 (λ a lo hi. same-some (child cs s a) (child ms s a)
       (λ u k. ap isSome (edge-child ms s a some-s (m .to u) (edge-s cs ms s e (h .tree) used low-e m a u (child-edge cs s a lo hi u k))))
@@ -249,14 +249,14 @@ module _ (cs : List Cell) (is : List ℕ) (s e : ℕ) (h : Tidy cs is) (used : 0
       ∙ ap (λ l. record { cells = cs; index = l }) index-back)
       (cases-eq e (base-of cs s))
 
-fresh-from : (cs : List Cell) (s a : ℕ) → 0 < s → child cs s a ≡ None → (u : ℕ) → Edge cs s a u → ⊥
+pub fresh-from : (cs : List Cell) (s a : ℕ) → 0 < s → child cs s a ≡ None → (u : ℕ) → Edge cs s a u → ⊥
 fresh-from cs s a some none u g = none-some u (sym none ∙ edge-child cs s a some u g)
 
 module _ (cs : List Cell) (is : List ℕ) (s : ℕ) (h : Sound cs is) (used : 0 < parent cs s) where
-  way-s : (p : List ℕ) × Reach cs p s
+  pub way-s : (p : List ℕ) × Reach cs p s
   way-s = reach-of cs is h s used
 
-  tidy-s : Tidy cs is
+  pub tidy-s : Tidy cs is
   tidy-s = tidy-of cs is h (omega (arith, within cs s used, reach-some cs (way-s .0) s (way-s .1)))
 
 pub moving : (cs : List Cell) (is : List ℕ) (s a b : ℕ) (more : List ℕ) (z : ℤ) (f r : Spot) → Sound cs is → Open cs s (a ∷ b ∷ more) → child cs s a ≡ None
