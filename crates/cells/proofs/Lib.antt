@@ -23,3 +23,4 @@ pub mod Undoes
 pub mod Tallies
 pub mod Starts
 pub mod Extends
+pub mod Examples

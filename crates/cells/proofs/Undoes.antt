@@ -31,7 +31,7 @@ use Rattle.cells.proofs.Places.{free-m, long-m}
 use Rattle.cells.proofs.Leaves.{Indexed, index-moved, index-unique, length-index-moves}
 use Rattle.cells.proofs.Families.{first-of, lone-codes, codes-same}
 use Rattle.cells.proofs.Sounds.{Tidy, tidy-of, reach-of, inner-is, inner-base}
-use Rattle.cells.proofs.Grows.{then-some, Here, There, place-ways, place-well, place-lone, no-leaf}
+use Rattle.cells.proofs.Grows.{then-some, Here, There, place-ways, place-well, place-lone, place-none, no-leaf}
 
 -- a node without children gets one: only its BASE changes besides
 pub record Lent (cs : List Cell) (is : List ℕ) (s a : ℕ) (z : ℤ) (r : Spot) (e : ℕ) : Type 0 where
@@ -293,3 +293,26 @@ undoing cs is s a more z r h o none e =
     by tidy leafless y f (inr k) =
         ap (λ l. moved-back (relocated cs s (child-codes cs s) (k .0)) l s (base-of cs s)) (sym (ap (λ x. x .index) (k .3)))
         ∙ all-back cs is s (k .0) tidy (o .used) leafless (k .1) (λ c i. k .2 c (inr i))
+
+-- a number without a leaf has none after a path with another grew
+grow-zero : (cs : List Cell) (is : List ℕ) (s a : ℕ) (q more : List ℕ) (z : ℤ) (r : Spot) (n : ℕ) → Tree cs → Reach cs q s → NotLeaf cs s → Codes (a ∷ more) → ((u : ℕ) → Edge cs s a u → ⊥) → Indexed cs is → getD is n 0 ≡ 0
+    → grow more cs is s a z ≡ Some r → getD (r .index) n 0 ≡ 0
+grow-zero cs is s a q [] z r n tree way leafless cds fresh ix none e = place-none cs is s a q z tree way (cds .0 .0) (cds .0 .1) leafless fresh r e n ix none
+grow-zero cs is s a q (b ∷ more) z r n tree way leafless cds fresh ix none e =
+    let k = then-some (place cs is s a (pos 0)) (λ x. grow more (x .cells) (x .index) (x .spot) b z) r e in
+    let f : Spot = k .0 in
+    let w = place-well cs is s a q (pos 0) tree way (cds .0 .0) (cds .0 .1) leafless fresh f (k .1) .1 in
+    let stays = grow-stays (f .cells) (f .index) (f .spot) b (a ∷ q) more z r (w .tree) (w .new) (λ m y. no-leaf m (sym (w .base) ∙ y)) (cds .1)
+    (place-lone cs is s a q (pos 0) tree way (cds .0 .0) (cds .0 .1) leafless fresh f (k .1)) (k .2) in
+    ap (λ l. getD l n 0) (stays .0) ∙ place-none cs is s a q (pos 0) tree way (cds .0 .0) (cds .0 .1) leafless fresh f (k .1) n ix none
+
+pub taking-back : (cs : List Cell) (is : List ℕ) (s a : ℕ) (more : List ℕ) (n : ℕ) (r : Spot) → Sound cs is → Open cs s (a ∷ more) → child cs s a ≡ None → getD is n 0 ≡ 0
+    → grow more cs is s a (negsuc n) ≡ Some r → undo (r .cells) (set (set (r .index) n (r .spot)) n 0) s (base-of cs s) (1 + length more) (r .spot) ≡ record { cells = cs; index = is }
+taking-back cs is s a more n r h o none zero-n e =
+    let way = way-s cs is s h (o .used) in
+    let tidy = tidy-s cs is s h (o .used) in
+    let leafless : NotLeaf cs s = inner-is (at cs s .base) (o .inner) in
+    let fresh = fresh-from cs s a (reach-some cs (way .0) s (way .1)) none in
+    let still = grow-zero cs is s a (way .0) more (negsuc n) r n (tidy .tree) (way .1) leafless (codes-from (a ∷ more) (o .path)) fresh (tidy .indexed) zero-n e in
+    let same : set (set (r .index) n (r .spot)) n 0 ≡ r .index = set-set (r .index) n (r .spot) 0 ∙ ap (set (r .index) n) (sym still) ∙ set-getD (r .index) n 0 in
+    ap (λ l. undo (r .cells) l s (base-of cs s) (1 + length more) (r .spot)) same ∙ undoing cs is s a more (negsuc n) r h o none e

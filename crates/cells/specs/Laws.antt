@@ -11,12 +11,16 @@ use Rattle.std.specs.declared.option.Option.{Option}
 use Rattle.std.specs.declared.option.Option.the-variants.{Some, None}
 use Rattle.cells.specs.declared.Cell.{Cell}
 use Rattle.cells.specs.Cells.{free-cell, root-cell, at, base-of, parent, is-leaf, child, all-codes}
-use Rattle.cells.specs.Placing.{Arrays, Spot, place, grow, enter, undo}
+use Rattle.cells.specs.Placing.{Lowest, lowest, Arrays, Spot, place, grow, enter, undo}
 use Rattle.cells.specs.Walking.{cell-at, number-at, turned, path-to}
 use Rattle.cells.specs.Pruning.{take-out}
 use Rattle.cells.specs.Trees.{In, Reach, Held}
 use Rattle.cells.specs.Counting.{in-use, same-path, beginnings}
 use Rattle.cells.specs.Invariant.{Sound}
+
+-- the search finds the lowest base with a free cell for each of the codes, and none only where there is none
+abbrev pub Searching : Type 0
+Searching = (cs : List Cell) (codes : List ℕ) → 0 < length codes → Lowest cs codes (lowest cs codes)
 
 -- walking finds exactly the paths that lead to a cell, and the numbers of those that lead to a leaf
 pub record Walks (cs : List Cell) (p : List ℕ) : Type 0 where
@@ -74,6 +78,11 @@ Moving = (cs : List Cell) (is : List ℕ) (s a b : ℕ) (more : List ℕ) (z : �
 abbrev pub Undoing : Type 0
 Undoing = (cs : List Cell) (is : List ℕ) (s a : ℕ) (more : List ℕ) (z : ℤ) (r : Spot) → Sound cs is → Open cs s (a ∷ more) → child cs s a ≡ None
     → grow more cs is s a z ≡ Some r → undo (r .cells) (r .index) s (base-of cs s) (1 + length more) (r .spot) ≡ record { cells = cs; index = is }
+
+-- so a path that was entered is taken back exactly, once its number's entry is 0 again
+abbrev pub TakingBack : Type 0
+TakingBack = (cs : List Cell) (is : List ℕ) (s a : ℕ) (more : List ℕ) (n : ℕ) (r : Spot) → Sound cs is → Open cs s (a ∷ more) → child cs s a ≡ None → getD is n 0 ≡ 0
+    → grow more cs is s a (negsuc n) ≡ Some r → undo (r .cells) (set (set (r .index) n (r .spot)) n 0) s (base-of cs s) (1 + length more) (r .spot) ≡ record { cells = cs; index = is }
 
 -- the path p was taken out: it is no longer held, and each other path is as before
 pub record TakesOut (cs : List Cell) (is : List ℕ) (p : List ℕ) (xs : Arrays) : Type 0 where

@@ -4,7 +4,8 @@
 // of words or triples, and it has no code that works on cells: specs/ defines the rules, in the
 // order in which docs/CELLS.md tells them, and the contracts below are the theorems about them.
 ghost use Rattle.cells.specs.Laws.{Starting, Walking, Climbing, Indexing, Counting};
-ghost use Rattle.cells.specs.Laws.{Entering, Moving, Undoing, Taking};
+ghost use Rattle.cells.specs.Laws.{Searching, Entering, Moving, Undoing, TakingBack, Taking};
+ghost use Rattle.cells.specs.Examples.{Examples};
 
 // A cell: BASE and CHECK.
 #[derive(Clone, Copy, PartialEq, Eq, Debug)]
@@ -32,12 +33,21 @@ pub fn reading_laws()
 {
 }
 
-// What a change does: an entered path is held in addition; at most one family moves on the way;
-// what grew is undone exactly; a path that is taken out is gone; and every other path stays.
+// What a change does: the search finds the lowest base; an entered path is held in addition; at
+// most one family moves on the way; what grew is undone exactly, so the newest path can be taken
+// back; a path that is taken out is gone; and every other path stays as it was.
 pub fn changing_laws()
+    ensures searching { λ _. ⌜ Searching ⌝ }
     ensures entering { λ _. ⌜ Entering ⌝ }
     ensures moving { λ _. ⌜ Moving ⌝ }
     ensures undoing { λ _. ⌜ Undoing ⌝ }
+    ensures taking_back { λ _. ⌜ TakingBack ⌝ }
     ensures taking { λ _. ⌜ Taking ⌝ }
+{
+}
+
+// The rules, worked out on small arrays.
+pub fn worked_examples()
+    ensures { λ _. ⌜ Examples ⌝ }
 {
 }
