@@ -17,6 +17,7 @@ use Rattle.cells.specs.Placing.{relocated, Arrays, Spot, place, then-place, gr
 use Rattle.cells.specs.Trees.{In, Edge, Reach, Tree, NotLeaf}
 use Rattle.cells.specs.Invariant.{Sound}
 use Rattle.cells.specs.Laws.{Open}
+use Rattle.cells.proofs.Basics.{no-some}
 use Rattle.cells.proofs.Paths.{reach-some, reach-used}
 use Rattle.cells.proofs.Renamings.{up-used}
 use Rattle.cells.proofs.Counts.{within}
@@ -58,7 +59,7 @@ grow-none (b ∷ more) rest cs is s a c z e = under (place cs is s a (pos 0)) e 
     under (Some r) e h = h r e
 
 pub grown-none : (codes rest : List ℕ) (cs : List Cell) (is : List ℕ) (s c : ℕ) (z : ℤ) → grown codes cs is s (pos 0) ≡ None → grown (codes ++ c ∷ rest) cs is s z ≡ None
-grown-none [] rest cs is s c z e = let y : _≡_ {A = ℕ} 0 1 = cc in absurd (omega arith)
+grown-none [] rest cs is s c z e = absurd (no-some _ (sym e))
 grown-none (a ∷ more) rest cs is s c z e = grow-none more rest cs is s a c z e
 
 -- each parent in a tree is a cell

@@ -65,10 +65,6 @@ pub lone-codes : (cs : List Cell) (s : ℕ) (codes : List ℕ) → Family cs s c
 lone-codes cs s [] fam lone = refl
 lone-codes cs s (c ∷ more) fam lone = absurd (lone c (base-of cs s + c) (fam .sound c (inl refl)))
 
-pub none-code : (codes : List ℕ) → some-code codes ≡ false → codes ≡ []
-none-code [] e = refl
-none-code (c ∷ more) e = absurd (both-ways true e refl)
-
 -- the child codes depend on which children there are
 pub codes-same : (cs es : List Cell) (s n : ℕ) → ((a : ℕ) → 0 < a → a < n → isSome (child cs s a) ≡ isSome (child es s a)) → codes-below cs s n ≡ codes-below es s n
 unfolding codes-below

@@ -1,3 +1,4 @@
+pub mod Basics
 pub mod Changes
 pub mod Paths
 pub mod Renamings

@@ -18,6 +18,7 @@ use Rattle.std.proofs.shelf.Tests.{cases-order, cases-eq, cond-both, false≢tr
 use Rattle.cells.specs.declared.Cell.{Cell}
 use Rattle.cells.specs.Cells.{at, eqZ, is-free}
 use Rattle.cells.specs.Placing.{Free, AllFree, Lowest, all-free, first-from, lowest}
+use Rattle.cells.proofs.Basics.{not-leaf}
 
 pub lowest-unique : (cs : List Cell) (codes : List ℕ) (r s : Option ℕ) → Lowest cs codes r → Lowest cs codes s → r ≡ s
 lowest-unique cs codes None None p q = refl
@@ -31,8 +32,8 @@ lowest-unique cs codes (Some r) (Some s) p q =
 -- the tests decide what they stand for
 decides-eqZ : (a b : ℤ) → Decides (eqZ a b) (a ≡ b)
 decides-eqZ (pos a) (pos b) = decides-like (eqb a b) (ap pos) (λ e. cc) (decides-eqb a b)
-decides-eqZ (pos a) (negsuc b) = (λ e. absurd (false≢true e), λ e. let z : _≡_ {A = ℕ} 0 1 = cc in absurd (omega arith))
-decides-eqZ (negsuc a) (pos b) = (λ e. absurd (false≢true e), λ e. let z : _≡_ {A = ℕ} 0 1 = cc in absurd (omega arith))
+decides-eqZ (pos a) (negsuc b) = (λ e. absurd (false≢true e), λ e. absurd (not-leaf a b e))
+decides-eqZ (negsuc a) (pos b) = (λ e. absurd (false≢true e), λ e. absurd (not-leaf b a (sym e)))
 decides-eqZ (negsuc a) (negsuc b) = decides-like (eqb a b) (ap negsuc) (λ e. cc) (decides-eqb a b)
 
 pub decides-free : (cs : List Cell) (t : ℕ) → Decides (is-free cs t) (Free cs t)

@@ -16,7 +16,6 @@ use Rattle.cells.specs.declared.Cell.{Cell}
 use Rattle.cells.specs.Counting.{same-path}
 use Rattle.cells.specs.Walking.{number-at, turned}
 use Rattle.cells.specs.Trees.{Held}
-use Rattle.cells.proofs.Walks.{none-some}
 use Rattle.cells.proofs.Climbs.{number-held, held-number, number-positive}
 
 pub decides-same : (p q : List ℕ) → Decides (same-path p q) (p ≡ q)

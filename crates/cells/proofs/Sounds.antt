@@ -18,11 +18,12 @@ use Rattle.cells.specs.Cells.{free-cell, at, nat, base-of, parent, is-leaf, ed
 use Rattle.cells.specs.Walking.{walk, cell-at, is-found, number-at, turned, path-to}
 use Rattle.cells.specs.Trees.{Edge, Reach, Tree, Held, Ends, Whole, NotLeaf, Lone}
 use Rattle.cells.specs.Invariant.{Sound}
+use Rattle.cells.proofs.Basics.{not-leaf, none-code}
 use Rattle.cells.proofs.Paths.{edge-up, reach-some, reach-used, root-apart}
-use Rattle.cells.proofs.Walks.{listing, none-some}
+use Rattle.cells.proofs.Walks.{listing}
 use Rattle.cells.proofs.Climbs.{turned-back, cell-reach, reach-cell, path-is}
 use Rattle.cells.proofs.Leaves.{Indexed, indexed-from, leads-from}
-use Rattle.cells.proofs.Families.{first-of, inner-of, some-of, none-of, lone-codes, none-code}
+use Rattle.cells.proofs.Families.{first-of, inner-of, some-of, none-of, lone-codes}
 
 -- the invariant over the tree, of two cells or more
 pub record Tidy (cs : List Cell) (is : List ℕ) : Type 0 where
@@ -40,7 +41,7 @@ leaf-is (pos n) e = absurd (omega (arith, ltb-true n 0 e))
 leaf-is (negsuc n) e = (n, refl)
 
 pub inner-is : (z : ℤ) → ltZ z (pos 0) ≡ false → (n : ℕ) → z ≡ negsuc n → ⊥
-inner-is (pos k) e n q = let y : _≡_ {A = ℕ} 0 1 = cc in omega arith
+inner-is (pos k) e n q = not-leaf k n q
 inner-is (negsuc k) e n q = both-ways true e refl
 
 module _ (cs : List Cell) (is : List ℕ) (h : Sound cs is) where

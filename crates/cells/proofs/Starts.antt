@@ -18,10 +18,11 @@ use Rattle.cells.specs.Walking.{cell-at, number-at, turned, path-to}
 use Rattle.cells.specs.Trees.{Reach, Tree, Held}
 use Rattle.cells.specs.Invariant.{Sound}
 use Rattle.cells.specs.Laws.{cleared, Starts, Climbs, Indexes}
+use Rattle.cells.proofs.Basics.{not-leaf}
 use Rattle.cells.proofs.Paths.{reach-some, reach-used}
 use Rattle.cells.proofs.Counts.{within, depth}
 use Rattle.cells.proofs.Climbs.{turned-back, cell-reach, number-held, held-number, path-is}
-use Rattle.cells.proofs.Leaves.{Indexed, leads-from, leaf-used, no-negative}
+use Rattle.cells.proofs.Leaves.{Indexed, leads-from, leaf-used}
 use Rattle.cells.proofs.Numbers.{number-none}
 use Rattle.cells.proofs.Sounds.{Tidy, tidy-of, sound-of}
 use Rattle.cells.proofs.TakesOut.{length-turned}
@@ -40,10 +41,7 @@ module _ (cs : List Cell) (is : List ℕ) (all : (j : ℕ) → j < length cs →
 
   no-leaf : (j n : ℕ) → at cs j .base ≡ negsuc n → ⊥
   no-leaf j n b =
-      ⊎-elim (λ e. one n (ap (λ c. c .base) (sym e) ∙ b)) (λ e. no-negative n (ap (λ c. c .base) (sym e) ∙ b)) (root-or-free j)
-    where
-      one : (n : ℕ) → pos 1 ≡ negsuc n → ⊥
-      one n e = let y : _≡_ {A = ℕ} 0 1 = cc in omega arith
+      ⊎-elim (λ e. not-leaf 1 n (ap (λ c. c .base) (sym e) ∙ b)) (λ e. not-leaf 0 n (ap (λ c. c .base) (sym e) ∙ b)) (root-or-free j)
 
   one : (j : ℕ) → 0 < parent cs j → j ≡ 1
   one j h = ⊎-elim (λ e. e) (λ ne. absurd (omega (arith, ap (λ c. nat (c .check)) (other j ne)))) (cases-eq j 1)

@@ -19,6 +19,7 @@ use Rattle.cells.specs.Trees.{In, Apart, Held}
 use Rattle.cells.specs.Counting.{in-use, same-path, has, add, add-beginnings, beginnings}
 use Rattle.cells.specs.Invariant.{Sound}
 use Rattle.cells.specs.Laws.{Holds}
+use Rattle.cells.proofs.Basics.{some-is}
 use Rattle.cells.proofs.Begins.{Begins, Beginnings}
 use Rattle.cells.proofs.Counts.{counts}
 use Rattle.cells.proofs.Climbs.{turned-back, turned-same, turned-turned, number-held, held-number, number-positive}
@@ -119,10 +120,6 @@ turned-append (a ∷ x) y q = turned-append x y (a ∷ q)
 
 round-append : (x y : List ℕ) → round (x ++ y) ≡ round y ++ round x
 round-append x y = turned-append x y [] ∙ turned-rest y [] (round x)
-
-some-is : (o : Option ℕ) → isSome o ≡ true → (u : ℕ) × (o ≡ Some u)
-some-is (Some u) e = (u, refl)
-some-is None e = absurd (both-ways false refl e)
 
 module _ (cs : List Cell) (ks : List (List ℕ)) (h : Holds cs ks) where
   held-by : (p : List ℕ) → In ks p → (n : ℕ) × Held cs (round p) n

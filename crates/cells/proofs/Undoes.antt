@@ -21,9 +21,10 @@ use Rattle.cells.specs.Trees.{In, Edge, Reach, Tree, Lone, NotLeaf, Family, Ro
 use Rattle.cells.specs.Invariant.{Sound}
 use Rattle.cells.specs.Laws.{Open, Stays}
 use Rattle.cells.proofs.Changes.{Placed, Moved}
+use Rattle.cells.proofs.Basics.{no-some, not-leaf}
 use Rattle.cells.proofs.Paths.{edge-up, reach-some, reach-used}
 use Rattle.cells.proofs.Counts.{within}
-use Rattle.cells.proofs.Walks.{Codes, none-some, child-edge, edge-child, listing}
+use Rattle.cells.proofs.Walks.{Codes, child-edge, edge-child, listing}
 use Rattle.cells.proofs.Climbs.{codes-from}
 use Rattle.cells.proofs.Relocations.{nat-is, Steps, moves-all, moves-well}
 use Rattle.cells.proofs.Returns.{base-s, used-s, edge-s, family-after, room-after, returning}
@@ -31,7 +32,7 @@ use Rattle.cells.proofs.Places.{free-m, long-m}
 use Rattle.cells.proofs.Leaves.{Indexed, index-moved, index-unique, length-index-moves}
 use Rattle.cells.proofs.Families.{first-of, lone-codes, codes-same}
 use Rattle.cells.proofs.Sounds.{Tidy, tidy-of, reach-of, inner-is, inner-base}
-use Rattle.cells.proofs.Grows.{then-some, Here, There, place-ways, place-well, place-lone, place-none, no-leaf}
+use Rattle.cells.proofs.Grows.{then-some, Here, There, place-ways, place-well, place-lone, place-none}
 
 -- a node without children gets one: only its BASE changes besides
 pub record Lent (cs : List Cell) (is : List ℕ) (s a : ℕ) (z : ℤ) (r : Spot) (e : ℕ) : Type 0 where
@@ -77,7 +78,7 @@ grow-stays cs is s a q (b ∷ more) z r tree way leafless cds lone e =
     let w = place-well cs is s a q (pos 0) tree way (cds .0 .0) (cds .0 .1) leafless fresh f (k .1) .1 in
     let one = place-stays cs is s a (pos 0) f (reach-some cs q s way) lone (k .1) in
     let d = lone-lent cs is s a (pos 0) f (reach-some cs q s way) lone (k .1) in
-    let rest = grow-stays (f .cells) (f .index) (f .spot) b (a ∷ q) more z r (w .tree) (w .new) (λ m y. no-leaf m (sym (w .base) ∙ y)) (cds .1)
+    let rest = grow-stays (f .cells) (f .index) (f .spot) b (a ∷ q) more z r (w .tree) (w .new) (λ m y. not-leaf 0 m (sym (w .base) ∙ y)) (cds .1)
     (place-lone cs is s a q (pos 0) tree way (cds .0 .0) (cds .0 .1) leafless fresh f (k .1)) (k .2) in
     (rest .0 ∙ one .0, λ j used ns.
         let same = one .1 j used ns in
@@ -158,7 +159,7 @@ grow-freed cs is s a q (b ∷ more) z r tree way leafless cds fresh e =
     let f : Spot = k .0 in
     let w = place-well cs is s a q (pos 0) tree way (cds .0 .0) (cds .0 .1) leafless fresh f (k .1) .1 in
     let lone : Lone (f .cells) (f .spot) = place-lone cs is s a q (pos 0) tree way (cds .0 .0) (cds .0 .1) leafless fresh f (k .1) in
-    let open-f : NotLeaf (f .cells) (f .spot) = λ m y. no-leaf m (sym (w .base) ∙ y) in
+    let open-f : NotLeaf (f .cells) (f .spot) = λ m y. not-leaf 0 m (sym (w .base) ∙ y) in
     let used-f : 0 < parent (f .cells) (f .spot) = reach-used (f .cells) (w .tree) (a ∷ q) (f .spot) (w .new) in
     let rest = grow-freed (f .cells) (f .index) (f .spot) b (a ∷ q) more z r (w .tree) (w .new) open-f (cds .1) (lone b) (k .2) in
     let ways = place-ways cs is s a (pos 0) f (k .1) in
@@ -219,13 +220,10 @@ module _ (cs : List Cell) (is : List ℕ) (s e : ℕ) (h : Tidy cs is) (used : 0
   index-back : index-relocated ms js s codes (base-of cs s) ≡ is
   index-back =
       let ix = index-moved ms s codes (base-of cs s) (moves-well cs s codes e (h .tree) used low-e fam-s room .tree) (used-s cs ms s e (h .tree) used low-e m) inner fam-m
-      (room-after cs s codes e (h .tree) used low-e inner fam-s room) js (λ n y. open-m n (sym base-m ∙ y)) (index-moved cs s codes e (h .tree) used low-e fam-s room is leafless (h .indexed)) in
+      (room-after cs s codes e (h .tree) used low-e inner fam-s room) js (λ n y. not-leaf e n (sym base-m ∙ y)) (index-moved cs s codes e (h .tree) used low-e fam-s room is leafless (h .indexed)) in
       index-unique cs (index-relocated ms js s codes (base-of cs s)) is
       (length-index-moves (base-of ms s) (base-of cs s) ms js codes ∙ length-index-moves (base-of cs s) e cs is codes)
       (subst (λ l. Indexed l (index-relocated ms js s codes (base-of cs s))) cells-back ix) (h .indexed)
-    where
-      open-m : (n : ℕ) → pos e ≡ negsuc n → ⊥
-      open-m n y = let x : _≡_ {A = ℕ} 0 1 = cc in omega arith
 
   -- at its own base only a node without children finds room
   no-codes : e ≡ base-of cs s → codes ≡ []
@@ -250,7 +248,7 @@ module _ (cs : List Cell) (is : List ℕ) (s e : ℕ) (h : Tidy cs is) (used : 0
       (cases-eq e (base-of cs s))
 
 pub fresh-from : (cs : List Cell) (s a : ℕ) → 0 < s → child cs s a ≡ None → (u : ℕ) → Edge cs s a u → ⊥
-fresh-from cs s a some none u g = none-some u (sym none ∙ edge-child cs s a some u g)
+fresh-from cs s a some none u g = no-some u (sym none ∙ edge-child cs s a some u g)
 
 module _ (cs : List Cell) (is : List ℕ) (s : ℕ) (h : Sound cs is) (used : 0 < parent cs s) where
   pub way-s : (p : List ℕ) × Reach cs p s
@@ -268,7 +266,7 @@ moving cs is s a b more z f r h o none e g =
     let leafless : NotLeaf cs s = inner-is (at cs s .base) (o .inner) in
     let fresh = fresh-from cs s a (reach-some cs (way .0) s (way .1)) none in
     let w = place-well cs is s a (way .0) (pos 0) tree (way .1) (cds .0 .0) (cds .0 .1) leafless fresh f e .1 in
-    let k = grow-stays (f .cells) (f .index) (f .spot) b (a ∷ way .0) more z r (w .tree) (w .new) (λ m y. no-leaf m (sym (w .base) ∙ y)) (cds .1)
+    let k = grow-stays (f .cells) (f .index) (f .spot) b (a ∷ way .0) more z r (w .tree) (w .new) (λ m y. not-leaf 0 m (sym (w .base) ∙ y)) (cds .1)
     (place-lone cs is s a (way .0) (pos 0) tree (way .1) (cds .0 .0) (cds .0 .1) leafless fresh f e) g in
     record { index = k .0; cells = k .1 }
 
@@ -302,7 +300,7 @@ grow-zero cs is s a q (b ∷ more) z r n tree way leafless cds fresh ix none e =
     let k = then-some (place cs is s a (pos 0)) (λ x. grow more (x .cells) (x .index) (x .spot) b z) r e in
     let f : Spot = k .0 in
     let w = place-well cs is s a q (pos 0) tree way (cds .0 .0) (cds .0 .1) leafless fresh f (k .1) .1 in
-    let stays = grow-stays (f .cells) (f .index) (f .spot) b (a ∷ q) more z r (w .tree) (w .new) (λ m y. no-leaf m (sym (w .base) ∙ y)) (cds .1)
+    let stays = grow-stays (f .cells) (f .index) (f .spot) b (a ∷ q) more z r (w .tree) (w .new) (λ m y. not-leaf 0 m (sym (w .base) ∙ y)) (cds .1)
     (place-lone cs is s a q (pos 0) tree way (cds .0 .0) (cds .0 .1) leafless fresh f (k .1)) (k .2) in
     ap (λ l. getD l n 0) (stays .0) ∙ place-none cs is s a q (pos 0) tree way (cds .0 .0) (cds .0 .1) leafless fresh f (k .1) n ix none
 

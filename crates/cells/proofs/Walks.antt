@@ -20,6 +20,8 @@ use Rattle.cells.specs.Trees.{Edge, Reach, Tree, In, Apart, Family, Room}
 use Rattle.cells.proofs.Changes.{Shifts, Moved}
 use Rattle.cells.specs.Placing.{relocated}
 use Rattle.cells.specs.Walking.{onward, walk, turned}
+use Rattle.cells.proofs.Basics.{no-some, some-is}
+pub use Rattle.cells.proofs.Basics.{no-some as none-some}
 use Rattle.cells.proofs.Paths.{edge-up, reach-some, reach-same, root-apart, reach-unique, reach-used}
 use Rattle.cells.proofs.Counts.{within}
 use Rattle.cells.proofs.Relocations.{nat-is, positive, eqZ-yes, relocating}
@@ -27,9 +29,6 @@ use Rattle.cells.proofs.Relocations.{nat-is, positive, eqZ-yes, relocating}
 -- each of them is a code
 abbrev pub Codes : List ℕ → Type 0
 Codes p = All (λ a. (0 < a) × (a < 258)) p
-
-pub none-some : (t : ℕ) → _≡_ {A = Option ℕ} None (Some t) → ⊥
-none-some t e = let z : _≡_ {A = ℕ} 0 1 = cc in omega arith
 
 positive-back : (z : ℤ) → ltZ (pos 0) z ≡ true → 0 < nat z
 positive-back (pos n) e = ltb-true 0 n e
@@ -40,7 +39,7 @@ eqZ-back (pos n) x e = ap pos (eqb-true n x e)
 eqZ-back (negsuc n) x e = absurd (both-ways false refl e)
 
 pub onward-some : (o : Option ℕ) (g : ℕ → Option ℕ) (t : ℕ) → onward o g ≡ Some t → (u : ℕ) × (o ≡ Some u) × (g u ≡ Some t)
-onward-some None g t e = absurd (none-some t e)
+onward-some None g t e = absurd (no-some t e)
 onward-some (Some u) g t e = (u, refl, e)
 
 module _ (cs : List Cell) (s a : ℕ) where
@@ -51,7 +50,7 @@ module _ (cs : List Cell) (s a : ℕ) where
       let same : base-of cs s + a ≡ t = cc in
       let h = and-parts _ _ e in
       subst (Edge cs s a) same (record { some = some; code = code; inner = positive-back (at cs s .base) (and-parts _ _ (h .0) .0); place = refl; check = eqZ-back (at cs (base-of cs s + a) .check) s (h .1) }))
-      (λ e is. absurd (none-some t is))
+      (λ e is. absurd (no-some t is))
 
   pub edge-child : 0 < s → (t : ℕ) → Edge cs s a t → child cs s a ≡ Some t
   edge-child h t e =
@@ -85,10 +84,6 @@ pub walking : (cs : List Cell) → Tree cs → (p : List ℕ) → Codes p → (t
 walking cs tree p c t = (walk-reach cs p [] 1 t c refl, reach-walk cs p [] 1 t refl)
 
 -- the codes of a family
-some-is : (o : Option ℕ) → isSome o ≡ true → (t : ℕ) × (o ≡ Some t)
-some-is (Some t) e = (t, refl)
-some-is None e = absurd (both-ways false refl e)
-
 in-append : (xs ys : List ℕ) (a : ℕ) → In (xs ++ ys) a → In xs a ⊎ In ys a
 in-append [] ys a i = inr i
 in-append (x ∷ xs) ys a (inl e) = inl (inl e)
