@@ -1,18 +1,16 @@
 -- Walking and climbing follow the paths of the tree.
 use mathlib.Core.Path.{_≡_, refl, ap, sym, subst, _∙_}
-use mathlib.Core.Bool.{Bool, true, false, cond, _&&_}
+use mathlib.Core.Bool.{true}
 use mathlib.Core.List.{List, [], _∷_, _++_, append-nil}
-use mathlib.Core.Logic.{⊎-elim, _⊎_, inl, inr}
 use Prim.Native.Nat.{ℕ, zero, suc, _+_, _-_, _<_, _≤_}
 use native.Mathlib.Omega.{arith}
-use lib.Dec.{ltb, eqb}
+use lib.Dec.{eqb}
 use lib.IntN.{ℤ, pos, negsuc}
 use lib.ListN.{length}
-use Rattle.std.specs.declared.option.Option.{Option}
 use Rattle.std.specs.declared.option.Option.the-variants.{Some, None}
 use Rattle.std.proofs.shelf.Tests.{cond-true, cond-false, cond-both, and-parts, and-from, lt-ltb, ltb-true, eq-eqb, ne-eqb}
 use Rattle.cells.specs.declared.Cell.{Cell}
-use Rattle.cells.specs.Cells.{at, nat, base-of, parent, number, is-code, all-codes}
+use Rattle.cells.specs.Cells.{at, base-of, parent, number, is-code, all-codes}
 use Rattle.cells.specs.Walking.{onward, walk, cell-at, number-at, turned, climb, path-to}
 use Rattle.cells.specs.Trees.{Edge, Reach, Tree, Held}
 use Rattle.cells.specs.Laws.{Walks}

@@ -1,9 +1,9 @@
 -- A path is entered: it is held in addition, and each other path is as before.
 use mathlib.Core.Path.{_≡_, refl, ap, sym, subst, _∙_}
-use mathlib.Core.Bool.{Bool, true, false, cond, _&&_}
+use mathlib.Core.Bool.{cond}
 use mathlib.Core.List.{List, [], _∷_}
 use mathlib.Core.Logic.{⊎-elim, _⊎_, inl, inr}
-use Prim.Native.Nat.{ℕ, zero, suc, _+_, _<_, _≤_}
+use Prim.Native.Nat.{ℕ, suc, _<_}
 use native.Mathlib.Omega.{arith}
 use lib.IntN.{ℤ, pos, negsuc}
 use lib.ListN.{length, getD, set}
@@ -12,10 +12,10 @@ use Rattle.std.specs.declared.option.Option.the-variants.{Some, None}
 use Rattle.std.proofs.shelf.Lists.{length-set}
 use Rattle.std.proofs.shelf.Tests.{cond-both, cases-eq, cases-lt}
 use Rattle.cells.specs.declared.Cell.{Cell}
-use Rattle.cells.specs.Cells.{free-cell, at, nat, base-of, parent, is-leaf, child, child-codes, some-code, all-codes}
+use Rattle.cells.specs.Cells.{at, nat, is-leaf, child, child-codes, all-codes}
 use Rattle.cells.specs.Placing.{Arrays, Spot, place, grow, extend, found-or, enter-from, enter}
-use Rattle.cells.specs.Walking.{number-at, turned}
-use Rattle.cells.specs.Trees.{Edge, Reach, Tree, Held, NotLeaf, Whole}
+use Rattle.cells.specs.Walking.{turned}
+use Rattle.cells.specs.Trees.{Edge, Reach, Held, NotLeaf}
 use Rattle.cells.specs.Invariant.{Sound}
 use Rattle.cells.specs.Laws.{Enters}
 use Rattle.cells.proofs.Basics.{no-some, some-same, leaf-same, no-codes}
@@ -23,9 +23,8 @@ use Rattle.cells.proofs.Paths.{reach-some, reach-same}
 use Rattle.cells.proofs.Walks.{Codes, begun, child-edge, edge-child, listing}
 use Rattle.cells.proofs.Climbs.{turned-same, codes-from, held-number}
 use Rattle.cells.proofs.Families.{first-of, some-of}
-use Rattle.cells.proofs.Leaves.{Indexed}
 use Rattle.cells.proofs.Sounds.{Tidy, tidy-of, sound-of, inner-is, short-root, short-child}
-use Rattle.cells.proofs.Grows.{then-some, place-ways, Grew, grow-well, grow-index, grow-wide}
+use Rattle.cells.proofs.Grows.{then-some, place-ways, grow-well, grow-index, grow-wide}
 use Rattle.cells.proofs.Numbers.{number-none, numbers-but}
 
 -- a path that leads somewhere begins at the root

@@ -1,5 +1,5 @@
 -- The examples, by computing.
-use mathlib.Core.Path.{_≡_, refl}
+use mathlib.Core.Path.{refl}
 use Rattle.cells.specs.Cells.{codes-below}
 use Rattle.cells.specs.Placing.{moved-list}
 use Rattle.cells.specs.Examples.{Examples}

@@ -1,32 +1,31 @@
 -- A path that grows code by code, as a loop does it: what is known after each code, and when one has no place.
 use mathlib.Core.Path.{_≡_, refl, ap, sym, subst, _∙_}
-use mathlib.Core.Bool.{Bool, true, false, cond}
 use mathlib.Core.List.{List, [], _∷_, _++_}
 use mathlib.Core.Logic.{⊎-elim, _⊎_, inl, inr}
-use Prim.Native.Nat.{ℕ, zero, suc, _+_, _<_, _≤_}
+use Prim.Native.Nat.{ℕ, suc, _+_, _<_}
 use native.Mathlib.Omega.{arith}
 use lib.Dec.{eqb}
-use lib.IntN.{ℤ, pos, negsuc}
-use lib.ListN.{length, getD, set}
+use lib.IntN.{ℤ, pos}
+use lib.ListN.{length, getD}
 use Rattle.std.specs.declared.option.Option.{Option}
 use Rattle.std.specs.declared.option.Option.the-variants.{Some, None}
 use Rattle.std.proofs.shelf.Tests.{cond-true, eq-eqb, cases-eq}
 use Rattle.cells.specs.declared.Cell.{Cell}
 use Rattle.cells.specs.Cells.{at, nat, base-of, parent, child, child-codes}
-use Rattle.cells.specs.Placing.{relocated, Arrays, Spot, place, then-place, grow, freed-up, moved-back, undo}
-use Rattle.cells.specs.Trees.{In, Edge, Reach, Tree, NotLeaf}
+use Rattle.cells.specs.Placing.{Spot, place, then-place, grow, freed-up, undo}
+use Rattle.cells.specs.Trees.{Tree, NotLeaf}
 use Rattle.cells.specs.Invariant.{Sound}
 use Rattle.cells.specs.Laws.{Open}
 use Rattle.cells.proofs.Basics.{no-some}
 use Rattle.cells.proofs.Paths.{reach-some, reach-used}
 use Rattle.cells.proofs.Renamings.{up-used}
 use Rattle.cells.proofs.Counts.{within}
-use Rattle.cells.proofs.Walks.{Codes, child-edge, edge-child, listing}
+use Rattle.cells.proofs.Walks.{Codes, listing}
 use Rattle.cells.proofs.Climbs.{codes-from}
-use Rattle.cells.proofs.Families.{in-getD, old-within}
-use Rattle.cells.proofs.Sounds.{Tidy, tidy-of, reach-of, inner-is}
+use Rattle.cells.proofs.Families.{old-within}
+use Rattle.cells.proofs.Sounds.{Tidy, inner-is}
 use Rattle.cells.proofs.Grows.{Here, There, grow-well, grow-wide}
-use Rattle.cells.proofs.Undoes.{mid-of, Freed, steps, steps-is, grow-freed, codes-m, fresh-from, way-s, tidy-s, undoing}
+use Rattle.cells.proofs.Undoes.{mid-of, steps, steps-is, grow-freed, codes-m, fresh-from, way-s, tidy-s, undoing}
 
 -- the codes lead from s down to new nodes, of which the last has the base z; none at all lead to s
 abbrev pub grown : List ℕ → List Cell → List ℕ → ℕ → ℤ → Option Spot

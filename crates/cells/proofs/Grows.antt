@@ -1,29 +1,29 @@
 -- A node gets a child, and a path grows from it.
 use mathlib.Core.Path.{_≡_, refl, ap, sym, subst, _∙_}
-use mathlib.Core.Bool.{Bool, true, false, cond, _&&_}
+use mathlib.Core.Bool.{true, _&&_}
 use mathlib.Core.List.{List, [], _∷_, _++_}
 use mathlib.Core.Logic.{⊎-elim, _⊎_, inl, inr}
-use Prim.Native.Nat.{ℕ, zero, suc, _+_, _<_, _≤_}
+use Prim.Native.Nat.{ℕ, _+_, _<_}
 use native.Mathlib.Omega.{arith}
 use lib.IntN.{ℤ, pos, negsuc}
 use lib.ListN.{length, getD, set, length-append}
 use Rattle.std.specs.declared.option.Option.{Option}
 use Rattle.std.specs.declared.option.Option.the-variants.{Some, None}
 use Rattle.std.proofs.shelf.Lists.{getD-past, length-set}
-use Rattle.std.proofs.shelf.Tests.{cond-both, and-parts, both-ways, cases-eq, cases-lt}
+use Rattle.std.proofs.shelf.Tests.{cond-both, and-parts, cases-eq, cases-lt}
 use Rattle.cells.specs.declared.Cell.{Cell}
-use Rattle.cells.specs.Cells.{free-cell, at, nat, base-of, parent, is-free, child-codes, some-code}
+use Rattle.cells.specs.Cells.{at, nat, base-of, parent, is-free, child-codes, some-code}
 use Rattle.cells.specs.Placing.{lowest, Lowest, relocated, index-relocated, placed, Spot, placed-at, place, then-place, grow}
 use Rattle.cells.specs.Walking.{turned}
-use Rattle.cells.specs.Trees.{In, Edge, Reach, Tree, Held, Lone, NotLeaf, Ends, WholeBut, Whole, Family, Room}
+use Rattle.cells.specs.Trees.{In, Edge, Reach, Tree, Held, Lone, NotLeaf, WholeBut, Family, Room}
 use Rattle.cells.proofs.Changes.{Placed}
 pub use Rattle.cells.proofs.Basics.{no-some, some-same}
 use Rattle.cells.proofs.Basics.{not-leaf}
 use Rattle.cells.proofs.Lowests.{decides-free, lowest-holds}
-use Rattle.cells.proofs.Paths.{edge-up, reach-some, reach-same, root-apart, reach-unique, reach-used}
+use Rattle.cells.proofs.Paths.{reach-some, reach-same, reach-used}
 use Rattle.cells.proofs.Walks.{Codes, listing, in-left, in-right}
 use Rattle.cells.proofs.Relocations.{moves-well}
-use Rattle.cells.proofs.Returns.{held-again, used-s}
+use Rattle.cells.proofs.Returns.{held-again}
 use Rattle.cells.proofs.Places.{taking, placing, free-m, long-m, m}
 use Rattle.cells.proofs.Leaves.{Indexed, index-moved, index-open, index-leaf, leaf-used, length-index-moves}
 use Rattle.cells.proofs.Families.{room-from, inner-of}

@@ -1,25 +1,25 @@
 -- The index leads each number to its leaf, after a move too.
 use mathlib.Core.Path.{_≡_, refl, ap, sym, subst, _∙_}
-use mathlib.Core.Bool.{Bool, true, false, cond}
+use mathlib.Core.Bool.{true}
 use mathlib.Core.List.{List, [], _∷_}
 use mathlib.Core.Logic.{⊎-elim, _⊎_, inl, inr}
-use Prim.Native.Nat.{ℕ, zero, suc, _+_, _<_, _≤_}
+use Prim.Native.Nat.{ℕ, _+_, _<_}
 use native.Mathlib.Omega.{arith}
 use lib.Dec.{ltb}
 use lib.IntN.{ℤ, pos, negsuc}
 use lib.Signed.{ltZ}
 use lib.ListN.{length, getD, set}
 use Rattle.std.proofs.shelf.Lists.{getD-set-same, getD-set-other, length-set, ext-getD, getD-past, set-past}
-use Rattle.std.proofs.shelf.Tests.{cases-eq, cases-lt, both-ways, cond-both, cond-false, ltb-true, le-ltb}
+use Rattle.std.proofs.shelf.Tests.{cases-eq, cases-lt, cond-both, cond-false, ltb-true, le-ltb}
 use Rattle.cells.specs.declared.Cell.{Cell}
-use Rattle.cells.specs.Cells.{free-cell, at, nat, base-of, parent, entry, is-leaf}
+use Rattle.cells.specs.Cells.{free-cell, at, base-of, parent, entry}
 use Rattle.cells.specs.Placing.{moved-list, moves, reindexed, index-moves, relocated, index-relocated}
-use Rattle.cells.specs.Trees.{In, Apart, Edge, Reach, Tree, NotLeaf, Family, Room}
+use Rattle.cells.specs.Trees.{In, Apart, Tree, NotLeaf, Family, Room}
 use Rattle.cells.specs.Index.{Leads, Entered}
-use Rattle.cells.proofs.Changes.{Renames, Rebased, Shifts, Moved}
+use Rattle.cells.proofs.Changes.{Renames}
 use Rattle.cells.proofs.Basics.{not-leaf, leaf-same}
 use Rattle.cells.proofs.Paths.{reach-some}
-use Rattle.cells.proofs.Relocations.{goes, goes-there, goes-else, rename-none, Mid, one, next, mid-next, x-moves, begun, chain, Steps, moves-all}
+use Rattle.cells.proofs.Relocations.{goes, goes-there, goes-else, rename-none, Mid, one, next, mid-next, x-moves, begun, chain, moves-all}
 use Rattle.cells.proofs.Renamings.{own-root}
 
 -- the index is right: each leaf's number leads to it, and each entry but 0 is a leaf of its number

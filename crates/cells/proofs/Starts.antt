@@ -1,25 +1,23 @@
 -- A new array is sound and holds nothing; the index and climbing in a sound one.
-use mathlib.Core.Path.{_≡_, refl, ap, sym, subst, _∙_}
-use mathlib.Core.Bool.{Bool, true, false, cond}
-use mathlib.Core.List.{List, [], _∷_}
+use mathlib.Core.Path.{_≡_, ap, sym, subst, _∙_}
+use mathlib.Core.List.{List, []}
 use mathlib.Core.Logic.{⊎-elim, _⊎_, inl, inr}
-use Prim.Native.Nat.{ℕ, zero, suc, _+_, _<_, _≤_}
+use Prim.Native.Nat.{ℕ, _<_}
 use native.Mathlib.Omega.{arith}
 use lib.Dec.{eqb}
-use lib.IntN.{ℤ, pos, negsuc}
+use lib.IntN.{negsuc}
 use lib.ListN.{length, getD}
-use Rattle.std.specs.declared.option.Option.{Option}
-use Rattle.std.specs.declared.option.Option.the-variants.{Some, None}
+use Rattle.std.specs.declared.option.Option.the-variants.{Some}
 use Rattle.std.proofs.shelf.Lists.{getD-past}
-use Rattle.std.proofs.shelf.Tests.{cases-eq, cases-lt, cond-false, ne-eqb, eq-eqb}
+use Rattle.std.proofs.shelf.Tests.{cases-eq, cases-lt, cond-false, ne-eqb}
 use Rattle.cells.specs.declared.Cell.{Cell}
-use Rattle.cells.specs.Cells.{free-cell, root-cell, at, nat, base-of, parent}
+use Rattle.cells.specs.Cells.{free-cell, root-cell, at, nat, parent}
 use Rattle.cells.specs.Walking.{cell-at, number-at, turned, path-to}
-use Rattle.cells.specs.Trees.{Reach, Tree, Held}
+use Rattle.cells.specs.Trees.{Reach}
 use Rattle.cells.specs.Invariant.{Sound}
 use Rattle.cells.specs.Laws.{cleared, Starts, Climbs, Indexes}
 use Rattle.cells.proofs.Basics.{not-leaf}
-use Rattle.cells.proofs.Paths.{reach-some, reach-used}
+use Rattle.cells.proofs.Paths.{reach-some}
 use Rattle.cells.proofs.Counts.{within, depth}
 use Rattle.cells.proofs.Climbs.{turned-back, cell-reach, number-held, held-number, path-is}
 use Rattle.cells.proofs.Leaves.{Indexed, leads-from, leaf-used}

@@ -1,9 +1,9 @@
 -- A path is taken out: it is no longer held, and each other path is as before.
 use mathlib.Core.Path.{_≡_, refl, ap, sym, subst, _∙_}
-use mathlib.Core.Bool.{Bool, true, false, cond}
+use mathlib.Core.Bool.{Bool, true, false}
 use mathlib.Core.List.{List, [], _∷_}
 use mathlib.Core.Logic.{⊎-elim, _⊎_, inl, inr}
-use Prim.Native.Nat.{ℕ, zero, suc, _+_, _<_, _≤_}
+use Prim.Native.Nat.{ℕ, _+_, _<_}
 use native.Mathlib.Omega.{arith}
 use lib.IntN.{ℤ, pos, negsuc}
 use lib.ListN.{length, getD, set}
@@ -13,19 +13,19 @@ use Rattle.std.specs.declared.option.Option.the-variants.{Some, None}
 use Rattle.std.proofs.shelf.Lists.{getD-set-same, getD-set-other, getD-past, length-set}
 use Rattle.std.proofs.shelf.Tests.{cond-both, cases-eq, cases-lt}
 use Rattle.cells.specs.declared.Cell.{Cell}
-use Rattle.cells.specs.Cells.{free-cell, root-cell, at, nat, base-of, parent, number, child-codes, some-code}
+use Rattle.cells.specs.Cells.{free-cell, root-cell, at, nat, parent, number, child-codes, some-code}
 use Rattle.cells.specs.Placing.{Arrays}
-use Rattle.cells.specs.Walking.{onward, cell-at, number-at, turned}
-use Rattle.cells.specs.Pruning.{prune, root-reset, taken-out, taken-at, take-out}
-use Rattle.cells.specs.Trees.{Edge, Reach, Tree, Held, Lone, Ends, Whole}
+use Rattle.cells.specs.Walking.{onward, cell-at, turned}
+use Rattle.cells.specs.Pruning.{prune, root-reset, taken-out, taken-at}
+use Rattle.cells.specs.Trees.{Reach, Tree, Held, Lone, Whole}
 use Rattle.cells.specs.Invariant.{Sound}
 use Rattle.cells.specs.Laws.{TakesOut, TakingOut}
 use Rattle.cells.proofs.Changes.{Same}
 use Rattle.cells.proofs.Basics.{no-some, some-same, not-leaf, leaf-same, no-codes, none-code}
-use Rattle.cells.proofs.Paths.{reach-some, reach-used, reach-unique, reach-same}
+use Rattle.cells.proofs.Paths.{reach-some, reach-same}
 use Rattle.cells.proofs.Counts.{within}
 use Rattle.cells.proofs.Walks.{listing}
-use Rattle.cells.proofs.Climbs.{turned-turned, turned-same, cell-reach}
+use Rattle.cells.proofs.Climbs.{turned-same, cell-reach}
 use Rattle.cells.proofs.Edits.{edge-kept, basing}
 use Rattle.cells.proofs.Families.{inner-of, none-of}
 use Rattle.cells.proofs.Leaves.{Indexed, leaf-used}

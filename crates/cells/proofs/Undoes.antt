@@ -1,9 +1,9 @@
 -- At most one family moves while a path grows, and what grew is undone exactly.
 use mathlib.Core.Path.{_≡_, refl, ap, sym, subst, _∙_}
-use mathlib.Core.Bool.{Bool, true, false, cond}
+use mathlib.Core.Bool.{true}
 use mathlib.Core.List.{List, [], _∷_}
 use mathlib.Core.Logic.{⊎-elim, _⊎_, inl, inr}
-use Prim.Native.Nat.{ℕ, zero, suc, _+_, _<_, _≤_}
+use Prim.Native.Nat.{ℕ, suc, _+_, _<_}
 use native.Mathlib.Omega.{arith}
 use lib.Dec.{eqb}
 use lib.IntN.{ℤ, pos, negsuc}
@@ -11,16 +11,14 @@ use lib.ListN.{length, getD, set}
 use Rattle.std.specs.Options.{isSome}
 use Rattle.std.specs.declared.option.Option.{Option}
 use Rattle.std.specs.declared.option.Option.the-variants.{Some, None}
-use Rattle.std.proofs.shelf.Lists.{getD-set-same, getD-set-other, set-set, set-getD, length-set}
-use Rattle.std.proofs.shelf.Tests.{both-ways, cond-true, cond-false, eq-eqb, ne-eqb, cases-eq}
+use Rattle.std.proofs.shelf.Lists.{getD-set-same, getD-set-other, set-set, set-getD}
+use Rattle.std.proofs.shelf.Tests.{cond-true, cond-false, eq-eqb, ne-eqb, cases-eq}
 use Rattle.cells.specs.declared.Cell.{Cell}
-use Rattle.cells.specs.Cells.{free-cell, at, nat, base-of, parent, child, codes-below, child-codes, some-code}
-use Rattle.cells.specs.Placing.{relocated, index-relocated, placed, Arrays, Spot, place, grow, freed-up, moved-back, undo}
-use Rattle.cells.specs.Walking.{turned}
+use Rattle.cells.specs.Cells.{free-cell, at, nat, base-of, parent, child, child-codes}
+use Rattle.cells.specs.Placing.{relocated, index-relocated, placed, Spot, place, grow, freed-up, moved-back, undo}
 use Rattle.cells.specs.Trees.{In, Edge, Reach, Tree, Lone, NotLeaf, Family, Room}
 use Rattle.cells.specs.Invariant.{Sound}
 use Rattle.cells.specs.Laws.{Open, Stays}
-use Rattle.cells.proofs.Changes.{Placed, Moved}
 use Rattle.cells.proofs.Basics.{no-some, not-leaf}
 use Rattle.cells.proofs.Paths.{edge-up, reach-some, reach-used}
 use Rattle.cells.proofs.Counts.{within}

@@ -1,9 +1,9 @@
 -- The walk follows the paths.
 use mathlib.Core.Path.{_≡_, refl, ap, sym, subst, _∙_}
-use mathlib.Core.Bool.{Bool, true, false, cond, _&&_}
+use mathlib.Core.Bool.{true, false, cond, _&&_}
 use mathlib.Core.List.{List, [], _∷_, _++_, append-nil}
 use mathlib.Core.Logic.{⊎-elim, _⊎_, inl, inr}
-use Prim.Native.Nat.{ℕ, zero, suc, _+_, _<_, _≤_}
+use Prim.Native.Nat.{ℕ, zero, suc, _+_, _<_}
 use native.Mathlib.Omega.{arith}
 use lib.Dec.{ltb}
 use lib.IntN.{ℤ, pos, negsuc}
@@ -12,19 +12,17 @@ use lib.ListN.{length}
 use Rattle.std.specs.Options.{isSome}
 use Rattle.std.specs.declared.option.Option.{Option}
 use Rattle.std.specs.declared.option.Option.the-variants.{Some, None}
-use Rattle.std.proofs.shelf.Tests.{cases-eq, cases-bool, cond-true, cond-false, cond-both, and-parts, and-from, lt-ltb, ltb-true, eqb-true, both-ways}
+use Rattle.std.proofs.shelf.Tests.{cases-eq, cond-true, cond-both, and-parts, and-from, lt-ltb, ltb-true, eqb-true, both-ways}
 use Rattle.std.specs.shelf.Lists.{All}
 use Rattle.cells.specs.declared.Cell.{Cell}
-use Rattle.cells.specs.Cells.{free-cell, at, nat, base-of, parent, eqZ, edge, child, codes-below}
-use Rattle.cells.specs.Trees.{Edge, Reach, Tree, In, Apart, Family, Room}
-use Rattle.cells.proofs.Changes.{Shifts, Moved}
-use Rattle.cells.specs.Placing.{relocated}
+use Rattle.cells.specs.Cells.{at, nat, base-of, parent, eqZ, edge, child, codes-below}
+use Rattle.cells.specs.Trees.{Edge, Reach, Tree, In, Apart, Family}
 use Rattle.cells.specs.Walking.{onward, walk, turned}
 use Rattle.cells.proofs.Basics.{no-some, some-is}
 pub use Rattle.cells.proofs.Basics.{no-some as none-some}
-use Rattle.cells.proofs.Paths.{edge-up, reach-some, reach-same, root-apart, reach-unique, reach-used}
+use Rattle.cells.proofs.Paths.{edge-up, reach-some, reach-same}
 use Rattle.cells.proofs.Counts.{within}
-use Rattle.cells.proofs.Relocations.{nat-is, positive, eqZ-yes, relocating}
+use Rattle.cells.proofs.Relocations.{positive, eqZ-yes}
 
 -- each of them is a code
 abbrev pub Codes : List ℕ → Type 0
