@@ -17,6 +17,7 @@ pub mod Families
 pub mod Sounds
 pub mod Grows
 pub mod Numbers
+pub mod Moves
 pub mod Enters
 pub mod Prunes
 pub mod TakesOut

@@ -13,11 +13,7 @@ use Rattle.cells.specs.Trees.{Edge, Reach, Tree}
 use Rattle.cells.proofs.Changes.{Renames, Rebased, Shifts, Moved}
 use Rattle.cells.proofs.Paths.{edge-up, reach-some, root-apart, reach-unique, reach-used}
 
--- a used cell's check is its parent, which is used
-pub up-is : (cs : List Cell) (tree : Tree cs) (p : List ℕ) (t : ℕ) → Reach cs p t → at cs t .check ≡ pos (parent cs t)
-up-is cs tree [] t r = rw r (tree .root ∙ ap (λ z. pos (nat z)) (sym (tree .root)))
-up-is cs tree (a ∷ p) t r = r .2 .check ∙ ap pos (sym (edge-up cs (r .0) a t (r .2)))
-
+-- the parent of a used cell is used
 pub up-used : (cs : List Cell) (tree : Tree cs) (p : List ℕ) (t : ℕ) → Reach cs p t → 0 < parent cs (parent cs t)
 up-used cs tree [] t r =
     let one : parent cs 1 ≡ 1 = ap nat (tree .root) in

@@ -22,7 +22,7 @@ use Rattle.cells.proofs.Counts.{within, depth}
 use Rattle.cells.proofs.Climbs.{turned-back, cell-reach, number-held, held-number, path-is}
 use Rattle.cells.proofs.Leaves.{Indexed, leads-from, leaf-used}
 use Rattle.cells.proofs.Numbers.{number-none}
-use Rattle.cells.proofs.Sounds.{Tidy, tidy-of, sound-of}
+use Rattle.cells.proofs.Sounds.{Tidy, tidy-of, sound-of, reach-of}
 use Rattle.cells.proofs.TakesOut.{length-turned}
 
 -- a new array
@@ -78,6 +78,11 @@ module _ (cs : List Cell) (is : List ℕ) (all : (j : ℕ) → j < length cs →
     sound = ⊎-elim (λ few. short few) (λ long. sound-of cs is (bare (omega arith))) (cases-lt (length cs) 2);
     none = λ p. number-none cs p (λ n h. no-leaf (h .0) n (h .2));
   }
+
+-- cell 0
+pub unused : (cs : List Cell) (is : List ℕ) → Sound cs is → at cs 0 ≡ free-cell
+unused cs is h =
+    ⊎-elim (h .blank 0) (λ nz. let w = reach-of cs is h 0 (omega arith) in absurd (omega (arith, reach-some cs (w .0) 0 (w .1)))) (cases-eq (parent cs 0) 0)
 
 -- climbing
 pub climbing : (cs : List Cell) (is p : List ℕ) (t : ℕ) → 1 < length cs → Sound cs is → cell-at cs p ≡ Some t → Climbs cs p t

@@ -16,7 +16,7 @@ use Rattle.std.proofs.shelf.Tests.{cases-eq, cond-true, cond-both, and-parts, a
 use Rattle.std.specs.shelf.Lists.{All}
 use Rattle.cells.specs.declared.Cell.{Cell}
 use Rattle.cells.specs.Cells.{at, nat, base-of, parent, eqZ, edge, child, codes-below}
-use Rattle.cells.specs.Trees.{Edge, Reach, Tree, In, Apart, Family}
+use Rattle.cells.specs.Trees.{Edge, Reach, In, Apart, Family}
 use Rattle.cells.specs.Walking.{onward, walk, turned}
 use Rattle.cells.proofs.Basics.{no-some, some-is}
 pub use Rattle.cells.proofs.Basics.{no-some as none-some}
@@ -77,9 +77,6 @@ module _ (cs : List Cell) where
       let same : w .1 .0 ≡ s = reach-same cs q (w .1 .0) s (w .1 .1) r in
       let e : Edge cs s a (w .0) = subst (λ x. Edge cs x a (w .0)) same (w .1 .2) in
       ap (λ o. onward o (λ u. walk cs u p)) (edge-child cs s a (reach-some cs q s r) (w .0) e) ∙ reach-walk p (a ∷ q) (w .0) t (w .1) k
-
-pub walking : (cs : List Cell) → Tree cs → (p : List ℕ) → Codes p → (t : ℕ) → (walk cs 1 p ≡ Some t → Reach cs (turned p []) t) × (Reach cs (turned p []) t → walk cs 1 p ≡ Some t)
-walking cs tree p c t = (walk-reach cs p [] 1 t c refl, reach-walk cs p [] 1 t refl)
 
 -- the codes of a family
 in-append : (xs ys : List ℕ) (a : ℕ) → In (xs ++ ys) a → In xs a ⊎ In ys a

@@ -9,11 +9,11 @@ use lib.ListN.{length, getD, set}
 use Rattle.std.specs.Options.{isSome}
 use Rattle.std.specs.declared.option.Option.the-variants.{Some, None}
 use Rattle.cells.specs.declared.Cell.{Cell}
-use Rattle.cells.specs.Cells.{free-cell, root-cell, at, base-of, parent, is-leaf, child, all-codes}
-use Rattle.cells.specs.Placing.{Lowest, lowest, Arrays, Spot, place, grow, enter, undo}
+use Rattle.cells.specs.Cells.{free-cell, root-cell, at, base-of, parent, is-leaf, child, child-codes, some-code, all-codes}
+use Rattle.cells.specs.Placing.{Lowest, lowest, relocated, index-relocated, Arrays, Spot, place, grow, enter, undo}
 use Rattle.cells.specs.Walking.{cell-at, number-at, turned, path-to}
 use Rattle.cells.specs.Pruning.{take-out}
-use Rattle.cells.specs.Trees.{In, Reach, Held}
+use Rattle.cells.specs.Trees.{In, Reach, Held, Room}
 use Rattle.cells.specs.Counting.{in-use, same-path, beginnings}
 use Rattle.cells.specs.Invariant.{Sound}
 
@@ -32,6 +32,10 @@ pub record Walks (cs : List Cell) (p : List ℕ) : Type 0 where
 abbrev pub Walking : Type 0
 Walking = (cs : List Cell) (p : List ℕ) → Walks cs p
 
+-- cell 0 is never used
+abbrev pub Unused : Type 0
+Unused = (cs : List Cell) (is : List ℕ) → Sound cs is → at cs 0 ≡ free-cell
+
 -- what a cell holds in a new array
 abbrev pub cleared : ℕ → Cell
 cleared j = cond (eqb j 1) root-cell free-cell
@@ -44,6 +48,15 @@ pub record Starts (cs : List Cell) (is : List ℕ) : Type 0 where
 -- of cells that were all cleared, and an index of zeros
 abbrev pub Starting : Type 0
 Starting = (cs : List Cell) (is : List ℕ) → ((j : ℕ) → j < length cs → at cs j ≡ cleared j) → ((n : ℕ) → getD is n 0 ≡ 0) → Starts cs is
+
+-- the family of s has moved: what was sound is sound, and every path has its number as before
+pub record Relocates (cs : List Cell) (is : List ℕ) (s e : ℕ) : Type 0 where
+  pub sound : Sound (relocated cs s (child-codes cs s) e) (index-relocated cs is s (child-codes cs s) e)
+  pub same : (p : List ℕ) → number-at (relocated cs s (child-codes cs s) e) p ≡ number-at cs p
+
+-- of a node with children, and a base at which they have free cells
+abbrev pub Relocating : Type 0
+Relocating = (cs : List Cell) (is : List ℕ) (s e : ℕ) → Sound cs is → 0 < parent cs s → some-code (child-codes cs s) ≡ true → 0 < e → Room cs (child-codes cs s) e → Relocates cs is s e
 
 -- the path p was entered with the number n + 1: it is held in addition, and each other path is as before
 pub record Enters (cs : List Cell) (is : List ℕ) (p : List ℕ) (n : ℕ) (xs : Arrays) : Type 0 where
