@@ -42,4 +42,3 @@ module _ (cs : List Cell) (tree : Tree cs) where
   pub reach-used : (p : List ℕ) (t : ℕ) → Reach cs p t → 0 < parent cs t
   reach-used [] t r = omega (arith, ap (parent cs) r, ap nat (tree .root))
   reach-used (a ∷ p) t r = omega (arith, reach-some cs p (r .0) (r .1), edge-up cs (r .0) a t (r .2))
-

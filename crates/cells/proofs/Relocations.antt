@@ -331,4 +331,3 @@ module _ (cs : List Cell) (s : ℕ) (codes : List ℕ) (e : ℕ) (tree : Tree cs
 
   pub moves-well : Moved cs (relocated cs s codes e) s e (moves-all .to)
   moves-well = let m = moves-all in moving cs (m .mid) (relocated cs s codes e) s e (m .to) tree used low-e (m .ren) (m .reb) (m .shifts)
-

@@ -41,23 +41,27 @@ enter-all o n (p ∷ more) = enter-all (then-with o (λ xs. enter (xs .cells) (x
 abbrev pub used-then : Option Arrays → Option ℕ
 used-then o = then-with o (λ xs. Some (in-use (xs .cells)))
 
--- the words a, b and ab, each with the end sign
+-- the label a, with the end sign
 abbrev pub a-path : List ℕ
 a-path = 99 ∷ 1 ∷ []
 
+-- the label b, with the end sign
 abbrev pub b-path : List ℕ
 b-path = 100 ∷ 1 ∷ []
 
+-- the labels a and b, with the end sign
 abbrev pub ab-path : List ℕ
 ab-path = 99 ∷ 100 ∷ 1 ∷ []
 
--- three paths of five codes, the second other at its third code, the third at its last
+-- a path of five codes
 abbrev pub first-path : List ℕ
 first-path = 2 ∷ 3 ∷ 6 ∷ 2 ∷ 4 ∷ []
 
+-- another at its third code
 abbrev pub second-path : List ℕ
 second-path = 2 ∷ 3 ∷ 7 ∷ 2 ∷ 4 ∷ []
 
+-- another at its last
 abbrev pub third-path : List ℕ
 third-path = 2 ∷ 3 ∷ 6 ∷ 2 ∷ 5 ∷ []
 
@@ -66,16 +70,16 @@ pub record Examples : Type 0 where
   -- in 104 cells a, b and ab have a place: the leaf of a moves from 2 to 4, and its index entry follows
   pub fits : enter-all (Some (new-arrays 104 3)) 0 (a-path ∷ b-path ∷ ab-path ∷ []) ≡ Some (record {
     cells = written (replicate 104 free-cell) (
-      record { place = 1; base = pos 1; check = 1 } ∷ record { place = 2; base = negsuc 2; check = 103 } ∷ record { place = 3; base = negsuc 1; check = 101 }
-      ∷ record { place = 4; base = negsuc 0; check = 100 } ∷ record { place = 100; base = pos 3; check = 1 } ∷ record { place = 101; base = pos 2; check = 1 }
-      ∷ record { place = 103; base = pos 1; check = 100 } ∷ []);
+        record { place = 1; base = pos 1; check = 1 } ∷ record { place = 2; base = negsuc 2; check = 103 } ∷ record { place = 3; base = negsuc 1; check = 101 }
+        ∷ record { place = 4; base = negsuc 0; check = 100 } ∷ record { place = 100; base = pos 3; check = 1 } ∷ record { place = 101; base = pos 2; check = 1 }
+        ∷ record { place = 103; base = pos 1; check = 100 } ∷ []);
     index = 4 ∷ 3 ∷ 2 ∷ [];
   })
   -- in 103 cells a and b have one, and ab has none
   pub two-fit : enter-all (Some (new-arrays 103 3)) 0 (a-path ∷ b-path ∷ []) ≡ Some (record {
     cells = written (replicate 103 free-cell) (
-      record { place = 1; base = pos 1; check = 1 } ∷ record { place = 2; base = negsuc 0; check = 100 } ∷ record { place = 3; base = negsuc 1; check = 101 }
-      ∷ record { place = 100; base = pos 1; check = 1 } ∷ record { place = 101; base = pos 2; check = 1 } ∷ []);
+        record { place = 1; base = pos 1; check = 1 } ∷ record { place = 2; base = negsuc 0; check = 100 } ∷ record { place = 3; base = negsuc 1; check = 101 }
+        ∷ record { place = 100; base = pos 1; check = 1 } ∷ record { place = 101; base = pos 2; check = 1 } ∷ []);
     index = 2 ∷ 3 ∷ 0 ∷ [];
   })
   pub third-does-not : enter-all (Some (new-arrays 103 3)) 0 (a-path ∷ b-path ∷ ab-path ∷ []) ≡ None

@@ -70,7 +70,7 @@ pub record Enters (cs : List Cell) (is : List ℕ) (p : List ℕ) (n : ℕ) (xs 
 abbrev pub Entering : Type 0
 Entering = (cs : List Cell) (is p : List ℕ) (n : ℕ) (xs : Arrays) → Sound cs is → getD is n 0 ≡ 0 → enter cs is p n ≡ Some xs → Enters cs is p n xs
 
--- while a path grows from s, which led to no child by a, only the family of s moves: every later step leaves the index and each cell in use as it is, but for the cell that was placed first
+-- after the first new cell was placed, the later ones leave the index and each cell in use as it is, but for that first one
 pub record Stays (f r : Spot) : Type 0 where
   pub index : r .index ≡ f .index
   pub cells : (j : ℕ) → 0 < parent (f .cells) j → (j ≡ f .spot → ⊥) → at (r .cells) j ≡ at (f .cells) j
@@ -81,7 +81,7 @@ pub record Open (cs : List Cell) (s : ℕ) (codes : List ℕ) : Type 0 where
   pub inner : is-leaf cs s ≡ false
   pub path : all-codes codes ≡ true
 
--- at most one family moves
+-- at most one family moves while a path grows from s, that of s
 abbrev pub Moving : Type 0
 Moving = (cs : List Cell) (is : List ℕ) (s a b : ℕ) (more : List ℕ) (z : ℤ) (f r : Spot) → Sound cs is → Open cs s (a ∷ b ∷ more) → child cs s a ≡ None
     → place cs is s a (pos 0) ≡ Some f → grow more (f .cells) (f .index) (f .spot) b z ≡ Some r → Stays f r
@@ -103,11 +103,12 @@ pub record TakesOut (cs : List Cell) (is : List ℕ) (p : List ℕ) (xs : Arrays
   pub index : length (xs .index) ≡ length is
   pub after : (q : List ℕ) → number-at (xs .cells) q ≡ cond (same-path q p) None (number-at cs q)
 
--- of sound cells; a path can be taken out exactly if it is held
+-- a path can be taken out exactly if it is held
 pub record TakingOut (cs : List Cell) (is : List ℕ) (p : List ℕ) : Type 0 where
   pub when : isSome (take-out cs is p) ≡ isSome (number-at cs p)
   pub out : (xs : Arrays) → take-out cs is p ≡ Some xs → TakesOut cs is p xs
 
+-- of sound cells
 abbrev pub Taking : Type 0
 Taking = (cs : List Cell) (is p : List ℕ) → Sound cs is → TakingOut cs is p
 
@@ -116,6 +117,7 @@ pub record Climbs (cs : List Cell) (p : List ℕ) (t : ℕ) : Type 0 where
   pub path : path-to cs t ≡ p
   pub short : length p < length cs
 
+-- of sound cells, two or more
 abbrev pub Climbing : Type 0
 Climbing = (cs : List Cell) (is p : List ℕ) (t : ℕ) → 1 < length cs → Sound cs is → cell-at cs p ≡ Some t → Climbs cs p t
 
@@ -124,6 +126,7 @@ pub record Indexes (cs : List Cell) (is : List ℕ) (n : ℕ) : Type 0 where
   pub path : (p : List ℕ) → number-at cs p ≡ Some (suc n) → n < length is → (0 < getD is n 0) × (path-to cs (getD is n 0) ≡ p)
   pub leaf : 0 < getD is n 0 → number-at cs (path-to cs (getD is n 0)) ≡ Some (suc n)
 
+-- of sound cells
 abbrev pub Indexing : Type 0
 Indexing = (cs : List Cell) (is : List ℕ) (n : ℕ) → Sound cs is → Indexes cs is n
 
@@ -132,6 +135,6 @@ pub record Holds (cs : List Cell) (ks : List (List ℕ)) : Type 0 where
   pub sound : (p : List ℕ) → In ks p → isSome (number-at cs p) ≡ true
   pub whole : (p : List ℕ) → isSome (number-at cs p) ≡ true → In ks p
 
--- the cells in use are one more than the different beginnings of the held paths
+-- the cells in use are one more than the different beginnings of the held paths, in an array of two cells or more
 abbrev pub Counting : Type 0
 Counting = (cs : List Cell) (is : List ℕ) (ks : List (List ℕ)) → 1 < length cs → Sound cs is → Holds cs ks → in-use cs ≡ 1 + length (beginnings ks)

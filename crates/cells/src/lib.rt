@@ -31,8 +31,7 @@ pub fn reading_laws()
     ensures climbing { λ _. ⌜ Climbing ⌝ }
     ensures indexing { λ _. ⌜ Indexing ⌝ }
     ensures counting { λ _. ⌜ Counting ⌝ }
-{
-}
+{}
 
 // What a change does: the search finds the lowest base; when a family moves, nothing held changes;
 // an entered path is held in addition; at most one family moves on the way; what grew is undone
@@ -46,11 +45,9 @@ pub fn changing_laws()
     ensures undoing { λ _. ⌜ Undoing ⌝ }
     ensures taking_back { λ _. ⌜ TakingBack ⌝ }
     ensures taking { λ _. ⌜ Taking ⌝ }
-{
-}
+{}
 
 // The rules, worked out on small arrays.
 pub fn worked_examples()
     ensures { λ _. ⌜ Examples ⌝ }
-{
-}
+{}
