@@ -31,7 +31,7 @@ pub record Tidy (cs : List Cell) (is : List ℕ) : Type 0 where
   pub bare : child-codes cs 1 ≡ [] → at cs 1 .base ≡ pos 1
   pub indexed : Indexed cs is
 
-found-is : (o : Option ℕ) (t : ℕ) → is-found o t ≡ true → o ≡ Some t
+pub found-is : (o : Option ℕ) (t : ℕ) → is-found o t ≡ true → o ≡ Some t
 found-is None t e = absurd (both-ways false refl e)
 found-is (Some u) t e = ap Some (eqb-true u t e)
 
