@@ -1,0 +1,6 @@
+pub mod Codes
+pub mod Walks
+pub mod Moving
+pub mod Giving
+pub mod Climbs
+pub mod Uses

@@ -1,0 +1,104 @@
+// Reading: the number at the end of a path, the path that leads to a cell, and how many cells are in use.
+ghost use mathlib.Core.Path.{_≡_};
+ghost use Prim.Native.Nat.{ℕ, _+_, _^_, _<_, _≤_};
+ghost use lib.ListN.{length};
+ghost use Rattle.cells.specs.Cells.{parent, number, is-code, all-codes};
+ghost use Rattle.cells.specs.Walking.{number-at, path-to};
+ghost use Rattle.cells.specs.Counting.{in-use};
+ghost use Rattle.double_array.specs.Outcomes.{Upward};
+use super::edges::walk;
+use super::placing::cell_number;
+use cells::Cell;
+
+// Whether it is the code of the end sign, 1, or of a label, 2 to 257.
+pub fn is_code(code: u16) -> bool
+    ensures { λ r. ⌜ r ≡ is-code code ⌝ }
+{
+    code > 0 && code < 258
+}
+
+// Whether each of them is a code.
+pub fn all_codes(path: &[u16]) -> bool
+    ensures { λ r. ⌜ r ≡ all-codes (now (path .entry)) ⌝ }
+{
+    for code in path {
+        if !is_code(*code) {
+            return false;
+        }
+    }
+    true
+}
+
+// The number of the leaf with this base.
+pub fn leaf_number(base: i32) -> Option<u32>
+    ensures { λ r. ⌜ r ≡ number base ⌝ }
+{
+    if base < 0 {
+        Some(base.unsigned_abs())
+    } else {
+        None
+    }
+}
+
+// The number of the leaf that the path leads to.
+pub fn number_at(cells: &[Cell], path: &[u16]) -> Option<u32>
+    requires { ⌜ length (now cells) < 2 ^ 31 ⌝ }
+    ensures { λ r. ⌜ r ≡ number-at (now (cells .entry)) (now (path .entry)) ⌝ }
+{
+    if cells.len() < 2 {
+        return None;
+    }
+    if !all_codes(path) {
+        return None;
+    }
+    let t = walk(cells, path)?;
+    leaf_number(cells[t].base)
+}
+
+// How many codes lead to the cell `t`.
+pub fn path_length(cells: &[Cell], t: usize) -> usize
+    requires upward { ⌜ Upward (now cells) ⌝ }
+    requires used { ⌜ 0 < parent (now cells) t ⌝ }
+    requires room { ⌜ length (now cells) < 2 ^ 31 ⌝ }
+    ensures { λ r. ⌜ r ≡ length (path-to (now (cells .entry)) t) ⌝ }
+{
+    let mut s = t;
+    let mut n = 0;
+    for _ in 0..cells.len() {
+        if s == 1 {
+            break;
+        }
+        s = cell_number(cells[s].check);
+        n += 1;
+    }
+    n
+}
+
+// Writes the path that leads to the cell `t` into `out`, which is as long as the path.
+pub fn write_path(cells: &[Cell], t: usize, out: &mut [u16])
+    requires upward { ⌜ Upward (now cells) ⌝ }
+    requires used { ⌜ 0 < parent (now cells) t ⌝ }
+    requires room { ⌜ length (now cells) < 2 ^ 31 ⌝ }
+    requires long { ⌜ length (now out) ≡ length (path-to (now cells) t) ⌝ }
+    ensures { λ _. ⌜ now (out .exit) ≡ path-to (now (cells .entry)) t ⌝ }
+{
+    let mut s = t;
+    for i in (0..out.len()).rev() {
+        let above = cell_number(cells[s].check);
+        out[i] = (s - cell_number(cells[above].base)) as u16;
+        s = above;
+    }
+}
+
+// How many cells are in use.
+pub fn in_use(cells: &[Cell]) -> usize
+    ensures { λ r. ⌜ r ≡ in-use (now (cells .entry)) ⌝ }
+{
+    let mut n = 0;
+    for t in 1..cells.len() {
+        if cell_number(cells[t].check) > 0 {
+            n += 1;
+        }
+    }
+    n
+}
