@@ -10,3 +10,7 @@ pub mod Edits
 pub mod Places
 pub mod Walks
 pub mod Lowests
+pub mod Climbs
+pub mod Leaves
+pub mod Families
+pub mod Sounds

@@ -302,7 +302,7 @@ module _ (cs : List Cell) (s : ℕ) (codes : List ℕ) (e : ℕ) (tree : Tree cs
           ∙ goes-else (b + a) (e + a) u (λ q. let one : u ≡ 1 = o (ap (parent cs) q ∙ edge-up cs s a (b + a) edge) in omega (arith, edge .some, edge .inner));
     }
 
-  chain : (to-do : List ℕ) (ds : List Cell) (f : ℕ → ℕ) → Renames cs ds f → Mid cs s e to-do f → Apart to-do → ((c : ℕ) → In to-do c → In codes c) → (g : ℕ → ℕ) × Renames cs (moves b e ds to-do) g × Mid cs s e [] g
+  pub chain : (to-do : List ℕ) (ds : List Cell) (f : ℕ → ℕ) → Renames cs ds f → Mid cs s e to-do f → Apart to-do → ((c : ℕ) → In to-do c → In codes c) → (g : ℕ → ℕ) × Renames cs (moves b e ds to-do) g × Mid cs s e [] g
   chain [] ds f ren mid apart sub = (f, ren, mid)
   chain (a ∷ more) ds f ren mid apart sub =
       chain more (moved-list ds (b + a) (e + a)) (λ u. goes (b + a) (e + a) (f u)) (next a more ds f ren mid apart sub) (mid-next a more ds f ren mid apart sub) (apart .1) (λ c i. sub c (inr i))

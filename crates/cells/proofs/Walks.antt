@@ -28,7 +28,7 @@ use Rattle.cells.proofs.Relocations.{nat-is, positive, eqZ-yes, relocating}
 abbrev pub Codes : List ℕ → Type 0
 Codes p = All (λ a. (0 < a) × (a < 258)) p
 
-none-some : (t : ℕ) → _≡_ {A = Option ℕ} None (Some t) → ⊥
+pub none-some : (t : ℕ) → _≡_ {A = Option ℕ} None (Some t) → ⊥
 none-some t e = let z : _≡_ {A = ℕ} 0 1 = cc in omega arith
 
 positive-back : (z : ℤ) → ltZ (pos 0) z ≡ true → 0 < nat z
@@ -39,7 +39,7 @@ eqZ-back : (z : ℤ) (x : ℕ) → eqZ z (pos x) ≡ true → z ≡ pos x
 eqZ-back (pos n) x e = ap pos (eqb-true n x e)
 eqZ-back (negsuc n) x e = absurd (both-ways false refl e)
 
-onward-some : (o : Option ℕ) (g : ℕ → Option ℕ) (t : ℕ) → onward o g ≡ Some t → (u : ℕ) × (o ≡ Some u) × (g u ≡ Some t)
+pub onward-some : (o : Option ℕ) (g : ℕ → Option ℕ) (t : ℕ) → onward o g ≡ Some t → (u : ℕ) × (o ≡ Some u) × (g u ≡ Some t)
 onward-some None g t e = absurd (none-some t e)
 onward-some (Some u) g t e = (u, refl, e)
 
@@ -63,17 +63,17 @@ module _ (cs : List Cell) (s a : ℕ) where
 
 module _ (cs : List Cell) where
   -- a path's beginning
-  begun : (p q : List ℕ) (t : ℕ) → Reach cs (turned p q) t → (u : ℕ) × Reach cs q u
+  pub begun : (p q : List ℕ) (t : ℕ) → Reach cs (turned p q) t → (u : ℕ) × Reach cs q u
   begun [] q t r = (t, r)
   begun (a ∷ p) q t r = let k = begun p (a ∷ q) t r in (k .1 .0, k .1 .1)
 
-  walk-reach : (p q : List ℕ) (s t : ℕ) → Codes p → Reach cs q s → walk cs s p ≡ Some t → Reach cs (turned p q) t
+  pub walk-reach : (p q : List ℕ) (s t : ℕ) → Codes p → Reach cs q s → walk cs s p ≡ Some t → Reach cs (turned p q) t
   walk-reach [] q s t c r e = let same : s ≡ t = cc in subst (Reach cs q) same r
   walk-reach (a ∷ p) q s t c r e =
       let k = onward-some (child cs s a) (λ u. walk cs u p) t e in
       walk-reach p (a ∷ q) (k .0) t (c .1) (s, r, child-edge cs s a (c .0 .0) (c .0 .1) (k .0) (k .1)) (k .2)
 
-  reach-walk : (p q : List ℕ) (s t : ℕ) → Reach cs q s → Reach cs (turned p q) t → walk cs s p ≡ Some t
+  pub reach-walk : (p q : List ℕ) (s t : ℕ) → Reach cs q s → Reach cs (turned p q) t → walk cs s p ≡ Some t
   reach-walk [] q s t r k = ap Some (reach-same cs q s t r k)
   reach-walk (a ∷ p) q s t r k =
       let w = begun p (a ∷ q) t k in

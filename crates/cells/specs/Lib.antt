@@ -6,3 +6,4 @@ pub mod Index
 pub mod Trees
 pub mod Counting
 pub mod Invariant
+pub mod Laws
