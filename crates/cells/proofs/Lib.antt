@@ -14,3 +14,4 @@ pub mod Climbs
 pub mod Leaves
 pub mod Families
 pub mod Sounds
+pub mod Grows

@@ -84,19 +84,19 @@ module _ (cs : List Cell) (s a : ℕ) (q codes : List ℕ) (e : ℕ) (z : ℤ) (
   room-m : Room cs codes e
   room-m c i = room c (inr i)
 
-  m : Steps cs s e ms
+  pub m : Steps cs s e ms
   m = moves-all cs s codes e tree used low-e fam room-m
 
   low-m : base-of ms s ≡ e
   low-m = ap nat (base-s cs ms s e tree used low-e m)
 
-  long-m : length ms ≡ length cs
+  pub long-m : length ms ≡ length cs
   long-m = m .reb .long ∙ m .ren .long
 
   way-m : Reach ms q s
   way-m = subst (Reach ms q) (stays cs ms s e tree used low-e m) (well cs ms s e tree used low-e m .ahead q s way)
 
-  free-m : parent ms (e + a) ≡ 0
+  pub free-m : parent ms (e + a) ≡ 0
   free-m = ⊎-elim (λ n. n)
       (λ nz.
       let o = back-at cs ms s e tree used low-e m (e + a) (omega arith) in
