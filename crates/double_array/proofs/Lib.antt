@@ -4,3 +4,5 @@ pub mod Moving
 pub mod Giving
 pub mod Climbs
 pub mod Uses
+pub mod Owed
+pub mod Fields

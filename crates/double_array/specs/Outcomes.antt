@@ -1,19 +1,13 @@
 -- What the functions on cells leave.
 use mathlib.Core.Path.{_≡_}
 use mathlib.Core.List.{List}
-use mathlib.Core.Bool.{cond}
 use Prim.Native.Nat.{ℕ, _+_, _<_}
-use lib.Dec.{eqb}
 use lib.IntN.{ℤ}
 use Rattle.std.specs.declared.option.Option.{Option}
 use Rattle.std.specs.declared.option.Option.the-variants.{Some, None}
 use Rattle.cells.specs.declared.Cell.{Cell}
-use Rattle.cells.specs.Cells.{free-cell, root-cell, base-of, parent}
+use Rattle.cells.specs.Cells.{base-of, parent}
 use Rattle.cells.specs.Placing.{Spot, place}
-
--- what the cell j holds in a new array: all cells are free but the root
-abbrev pub cleared : ℕ → Cell
-cleared j = cond (eqb j 1) root-cell free-cell
 
 -- the placing rule finds the cell t and leaves the cells xs and the index js, or finds no place and nothing changes
 abbrev pub Given : List Cell → List ℕ → ℕ → ℕ → ℤ → Option ℕ → List Cell → List ℕ → Type 0

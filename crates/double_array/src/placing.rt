@@ -5,7 +5,8 @@ ghost use Prim.Native.Nat.{ℕ, _+_, _^_, _<_, _≤_};
 ghost use lib.ListN.{length, getD, take, replicate};
 ghost use Rattle.cells.specs.Cells.{at, nat, base-of, root-cell, free-cell};
 ghost use Rattle.cells.specs.Placing.{lowest, repointed, moved, moved-list, reindexed, moves, index-moves, relocated, index-relocated};
-ghost use Rattle.double_array.specs.Outcomes.{Given, cleared};
+ghost use Rattle.cells.specs.Laws.{cleared};
+ghost use Rattle.double_array.specs.Outcomes.{Given};
 use super::edges::child_codes;
 use super::edges::is_free;
 use cells::Cell;
@@ -87,18 +88,6 @@ pub fn relocate(cells: &mut [Cell], index: &mut [u32], codes: &[u16], old: usize
     }
 }
 
-// Frees every cell but the root.
-pub fn clear(cells: &mut [Cell])
-    ensures { λ _. ⌜ ((j : ℕ) → j < length (now (cells .entry)) → at (now (cells .exit)) j ≡ cleared j) ⌝ }
-{
-    for cell in cells.iter_mut() {
-        *cell = Cell::FREE;
-    }
-    if cells.len() > 1 {
-        cells[1] = Cell::ROOT;
-    }
-}
-
 // The base as the number of a cell, 0 for a node without children.
 pub fn cell_number(base: i32) -> usize
     ensures { λ r. ⌜ r ≡ nat base ⌝ }
@@ -147,4 +136,25 @@ pub fn give_child(
     let moved = new + code as usize;
     cells[moved] = Cell { base, check };
     Some(moved)
+}
+
+// Frees every cell but the root.
+pub fn clear(cells: &mut [Cell])
+    ensures { λ _. ⌜ ((j : ℕ) → j < length (now (cells .entry)) → at (now (cells .exit)) j ≡ cleared j) ⌝ }
+{
+    for cell in cells.iter_mut() {
+        *cell = Cell::FREE;
+    }
+    if cells.len() > 1 {
+        cells[1] = Cell::ROOT;
+    }
+}
+
+// Leaves each number without a leaf.
+pub fn clear_index(index: &mut [u32])
+    ensures { λ _. ⌜ ((n : ℕ) → getD (now (index .exit)) n 0 ≡ 0) ⌝ }
+{
+    for entry in index.iter_mut() {
+        *entry = 0;
+    }
 }

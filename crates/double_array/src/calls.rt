@@ -1,0 +1,64 @@
+// What is done with a double array.
+ghost use mathlib.Core.Path.{_≡_};
+ghost use mathlib.Core.List.{List};
+ghost use Prim.Native.Nat.{ℕ, _<_, min};
+ghost use lib.ListN.{length, getD};
+ghost use Rattle.std.specs.Of.Vec.{vec-len};
+ghost use Rattle.std.specs.declared.option.Option.the-variants.{None};
+ghost use Rattle.cells.specs.Cells.{at};
+ghost use Rattle.cells.specs.Walking.{number-at};
+ghost use Rattle.cells.specs.Counting.{in-use};
+ghost use Rattle.cells.specs.Laws.{cleared};
+ghost use Rattle.double_array.specs.Views.{cells-of, index-of};
+use super::array::DoubleArray;
+use super::paths;
+use super::placing::clear;
+use super::placing::clear_index;
+use cells::Cell;
+
+impl DoubleArray {
+    // The most cells that an array has.
+    pub const MAX_CELLS: usize = 1_048_576;
+
+    // An array without a path. Of more than 1,048,576 cells the rest is given up.
+    pub fn new(mut cells: Vec<Cell>, mut index: Vec<u32>) -> DoubleArray
+        ensures cells_len { λ d. ⌜ length (cells-of d) ≡ min (vec-len cells) 1048576 ⌝ }
+        ensures cells { λ d. ⌜ ((j : ℕ) → j < length (cells-of d) → at (cells-of d) j ≡ cleared j) ⌝ }
+        ensures index_len { λ d. ⌜ length (index-of d) ≡ vec-len index ⌝ }
+        ensures index { λ d. ⌜ ((n : ℕ) → getD (index-of d) n 0 ≡ 0) ⌝ }
+        ensures none { λ d. ⌜ ((p : List ℕ) → number-at (cells-of d) p ≡ None) ⌝ }
+    {
+        cells.truncate(Self::MAX_CELLS);
+        clear(cells.as_mut_slice());
+        clear_index(index.as_mut_slice());
+        DoubleArray { cells, index }
+    }
+
+    // The number at the end of the path, or none where the path is not held.
+    pub fn number_at(&self, path: &[u16]) -> Option<u32>
+        ensures { λ r. ⌜ r ≡ number-at (cells-of (now (self .entry))) (now (path .entry)) ⌝ }
+    {
+        paths::number_at(self.cells.as_slice(), path)
+    }
+
+    // How many cells are in use.
+    pub fn in_use(&self) -> usize
+        ensures { λ r. ⌜ r ≡ in-use (cells-of (now (self .entry))) ⌝ }
+    {
+        paths::in_use(self.cells.as_slice())
+    }
+
+    // The cells.
+    pub fn cells(&self) -> &[Cell]
+        ensures { λ r. ⌜ now r ≡ cells-of (now (self .entry)) ⌝ }
+    {
+        self.cells.as_slice()
+    }
+
+    // The index.
+    pub fn index(&self) -> &[u32]
+        ensures { λ r. ⌜ now r ≡ index-of (now (self .entry)) ⌝ }
+    {
+        self.index.as_slice()
+    }
+}
