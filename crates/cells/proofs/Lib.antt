@@ -15,3 +15,5 @@ pub mod Leaves
 pub mod Families
 pub mod Sounds
 pub mod Grows
+pub mod Numbers
+pub mod Enters
