@@ -6,3 +6,5 @@ pub mod Climbs
 pub mod Uses
 pub mod Owed
 pub mod Fields
+pub mod Frees
+pub mod Follows

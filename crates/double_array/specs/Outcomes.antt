@@ -3,11 +3,14 @@ use mathlib.Core.Path.{_≡_}
 use mathlib.Core.List.{List}
 use Prim.Native.Nat.{ℕ, _+_, _<_}
 use lib.IntN.{ℤ}
+use lib.ListN.{length}
 use Rattle.std.specs.declared.option.Option.{Option}
 use Rattle.std.specs.declared.option.Option.the-variants.{Some, None}
 use Rattle.cells.specs.declared.Cell.{Cell}
 use Rattle.cells.specs.Cells.{base-of, parent}
-use Rattle.cells.specs.Placing.{Spot, place}
+use Rattle.cells.specs.Placing.{Spot, Arrays, place}
+use Rattle.cells.specs.Walking.{number-at}
+use Rattle.cells.specs.Pruning.{take-out}
 
 -- the placing rule finds the cell t and leaves the cells xs and the index js, or finds no place and nothing changes
 abbrev pub Given : List Cell → List ℕ → ℕ → ℕ → ℤ → Option ℕ → List Cell → List ℕ → Type 0
@@ -19,3 +22,12 @@ abbrev pub Upward : List Cell → Type 0
 Upward cs =
     (t : ℕ) → 0 < parent cs t → (t ≡ 1 → ⊥)
     → (0 < parent cs (parent cs t)) × (base-of cs (parent cs t) < t) × (t < base-of cs (parent cs t) + 258)
+
+-- each parent is a cell
+abbrev pub Parented : List Cell → Type 0
+Parented cs = (j : ℕ) → parent cs j < length cs
+
+-- the path p was taken out and had the number u, or it is not held and nothing changes
+abbrev pub Taken : List Cell → List ℕ → List ℕ → Option ℕ → List Cell → List ℕ → Type 0
+Taken cs is p None xs js = (number-at cs p ≡ None) × (xs ≡ cs) × (js ≡ is)
+Taken cs is p (Some u) xs js = (number-at cs p ≡ Some u) × (take-out cs is p ≡ Some (record { cells = xs; index = js }))

@@ -2,8 +2,9 @@
 ghost use mathlib.Core.Path.{_≡_};
 ghost use Prim.Native.Nat.{ℕ, _+_, _^_, _<_, _≤_};
 ghost use lib.ListN.{length};
+ghost use Rattle.std.specs.Options.{Cases};
 ghost use Rattle.cells.specs.Cells.{parent, number, is-code, all-codes};
-ghost use Rattle.cells.specs.Walking.{number-at, path-to};
+ghost use Rattle.cells.specs.Walking.{cell-at, number-at, path-to};
 ghost use Rattle.cells.specs.Counting.{in-use};
 ghost use Rattle.double_array.specs.Outcomes.{Upward};
 use super::edges::walk;
@@ -40,6 +41,20 @@ pub fn leaf_number(base: i32) -> Option<u32>
     }
 }
 
+// The cell that the path leads to from the root.
+pub fn cell_at(cells: &[Cell], path: &[u16]) -> Option<usize>
+    requires two { ⌜ 1 < length (now cells) ⌝ }
+    requires room { ⌜ length (now cells) < 2 ^ 31 ⌝ }
+    ensures cell { λ r. ⌜ r ≡ cell-at (now (cells .entry)) (now (path .entry)) ⌝ }
+    ensures within { λ r. ⌜ Cases r (Unit {0}) (λ t. t < length (now (cells .entry))) ⌝ }
+{
+    if all_codes(path) {
+        walk(cells, path)
+    } else {
+        None
+    }
+}
+
 // The number of the leaf that the path leads to.
 pub fn number_at(cells: &[Cell], path: &[u16]) -> Option<u32>
     requires { ⌜ length (now cells) < 2 ^ 31 ⌝ }
@@ -48,10 +63,7 @@ pub fn number_at(cells: &[Cell], path: &[u16]) -> Option<u32>
     if cells.len() < 2 {
         return None;
     }
-    if !all_codes(path) {
-        return None;
-    }
-    let t = walk(cells, path)?;
+    let t = cell_at(cells, path)?;
     leaf_number(cells[t].base)
 }
 

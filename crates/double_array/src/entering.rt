@@ -1,0 +1,82 @@
+// Entering a path: new cells below the node where it leaves the tree, all undone where one has no place.
+ghost use mathlib.Core.Path.{_≡_};
+ghost use Prim.Native.Nat.{ℕ, _+_, _-_, _^_, _<_, _≤_};
+ghost use lib.IntN.{negsuc};
+ghost use lib.ListN.{length, getD, drop};
+ghost use Rattle.std.specs.declared.option.Option.the-variants.{None};
+ghost use Rattle.cells.specs.Cells.{child as child-of, child-codes, is-leaf};
+ghost use Rattle.cells.specs.Placing.{freed-up, undo as undone};
+ghost use Rattle.cells.specs.Invariant.{Sound};
+ghost use Rattle.cells.specs.Laws.{Open};
+ghost use Rattle.double_array.specs.Outcomes.{Parented};
+ghost use Rattle.double_array.specs.Entries.{follow as followed, is-path, is-open, Entry, Extended};
+use super::edges::child;
+use super::edges::child_codes;
+use super::fault::PathFault;
+use super::paths::all_codes;
+use super::placing::cell_number;
+use super::placing::give_child;
+use super::placing::move_family;
+use super::placing::note_leaf;
+use cells::Cell;
+
+// What an entry has done so far: the node that got a child, its base before, how many cells are new, and the last of them.
+#[derive(Clone, Copy)]
+pub struct Growth {
+    pub node: usize,
+    pub base: usize,
+    pub new: usize,
+    pub tip: usize,
+}
+
+// Whether it is a path: 1 to 129 codes.
+pub fn is_path(path: &[u16]) -> bool
+    ensures { λ r. ⌜ r ≡ is-path (now (path .entry)) ⌝ }
+{
+    path.len() > 0 && path.len() < 130 && all_codes(path)
+}
+
+// Whether the number can be given: from 1 to 2,147,483,647, with no leaf in the index.
+pub fn is_open(index: &[u32], number: u32) -> bool
+    ensures { λ r. ⌜ r ≡ is-open (now (index .entry)) number ⌝ }
+{
+    if number == 0 || number >= 2_147_483_648 {
+        return false;
+    }
+    let entry = number as usize - 1;
+    entry >= index.len() || index[entry] == 0
+}
+
+// Follows the path from the root as far as there are edges: the last node, and how many codes led there.
+pub fn follow(cells: &[Cell], path: &[u16]) -> (usize, usize)
+    requires two { ⌜ 1 < length (now cells) ⌝ }
+    requires room { ⌜ length (now cells) < 2 ^ 31 ⌝ }
+    ensures node { λ r. ⌜ r .0 ≡ followed (now (cells .entry)) 1 (now (path .entry)) .node ⌝ }
+    ensures rest { λ r. ⌜ drop (r .1) (now (path .entry)) ≡ followed (now (cells .entry)) 1 (now (path .entry)) .rest ⌝ }
+    ensures within { λ r. ⌜ r .0 < length (now (cells .entry)) ⌝ }
+    ensures short { λ r. ⌜ r .1 ≤ length (now (path .entry)) ⌝ }
+{
+    let mut s = 1;
+    for i in 0..path.len() {
+        match child(cells, s, path[i]) {
+            Some(t) => s = t,
+            None => return (s, i),
+        }
+    }
+    (s, path.len())
+}
+
+// Frees the cell `t` and the cells above it, `n` in all.
+pub fn free_up(cells: &mut [Cell], t: usize, n: usize)
+    requires room { ⌜ length (now cells) < 2 ^ 31 ⌝ }
+    requires within { ⌜ t < length (now cells) ⌝ }
+    requires parents { ⌜ Parented (now cells) ⌝ }
+    ensures { λ _. ⌜ now (cells .exit) ≡ freed-up n (now (cells .entry)) t ⌝ }
+{
+    let mut s = t;
+    for _ in 0..n {
+        let above = cell_number(cells[s].check);
+        cells[s] = Cell::FREE;
+        s = above;
+    }
+}
