@@ -17,3 +17,8 @@ pub mod Sounds
 pub mod Grows
 pub mod Numbers
 pub mod Enters
+pub mod Prunes
+pub mod TakesOut
+pub mod Undoes
+pub mod Tallies
+pub mod Starts
