@@ -4,7 +4,6 @@ pub mod Moving
 pub mod Giving
 pub mod Climbs
 pub mod Uses
-pub mod Owed
 pub mod Fields
 pub mod Frees
 pub mod Follows

@@ -11,7 +11,7 @@ use Rattle.cells.specs.Walking.{number-at}
 use Rattle.cells.specs.Cells.{at}
 use Rattle.cells.specs.Laws.{cleared, Starts}
 use Rattle.double_array.proofs.Fields.{fields}
-use Rattle.double_array.proofs.Owed.{starting}
+use Rattle.cells.proofs.Starts.{starting}
 use Rattle.double_array.proofs.array.DoubleArray.new.Needs as need
 use Rattle.double_array.proofs.array.DoubleArray.new.Needs.{After-index-2·1}
 
