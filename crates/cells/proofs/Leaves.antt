@@ -112,7 +112,6 @@ module _ (cs ds : List Cell) (x t : ℕ) (is : List ℕ) (hx : 0 < parent cs x) 
     where
       here : (z : ℤ) → at cs x .base ≡ z → at cs x .base ≡ negsuc n → n < length is → getD (reindexed is z t) n 0 ≡ t
       here z bx bn lt = subst (λ y. getD (reindexed is y t) n 0 ≡ t) (sym bn ∙ bx) (getD-set-same is n t 0 lt)
-
       there : (z : ℤ) → at cs x .base ≡ z → (u : ℕ) → (u ≡ x → ⊥) → at cs u .base ≡ negsuc n → n < length is → getD is n 0 ≡ u → getD (reindexed is z t) n 0 ≡ u
       there (pos k) bx u ne was lt known = ap (λ l. getD l n 0) (reindexed-inner is k t) ∙ known
       there (negsuc k) bx u ne was lt known =

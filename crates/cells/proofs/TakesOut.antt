@@ -172,7 +172,6 @@ module _ (cs : List Cell) (is : List ℕ) (a : ℕ) (p : List ℕ) (t k : ℕ) (
     where
       leaf-same : (n m : ℕ) → negsuc n ≡ negsuc m → n ≡ m
       leaf-same n m e = cc
-
       gone : (n : ℕ) → n ≡ k → 0 < getD (set is k 0) n 0 → ⊥
       gone n e some =
           ⊎-elim

@@ -42,14 +42,12 @@ pub record Lent (cs : List Cell) (is : List ℕ) (s a : ℕ) (z : ℤ) (r : Spot
 pub lone-place : (cs : List Cell) (is : List ℕ) (s a : ℕ) (z : ℤ) (r : Spot) → 0 < s → Lone cs s → There cs is s a z r → (e : ℕ) × Lent cs is s a z r e
 lone-place cs is s a z r some lone h =
     let codes : child-codes cs s ≡ [] = lone-codes cs s (child-codes cs s) (listing cs s some) lone in
-    let e : ℕ = h .0 in (
-      e,
-      record {
-        fits = h .2 a (inl refl) .0;
-        free = h .2 a (inl refl) .1;
-        after = subst (λ l. _≡_ {A = Spot} (record { cells = placed cs s l e a z; index = index-relocated cs is s l e; spot = e + a }) r) codes (h .3);
-      },
-    )
+    let e : ℕ = h .0 in
+    (e, record {
+      fits = h .2 a (inl refl) .0;
+      free = h .2 a (inl refl) .1;
+      after = subst (λ l. _≡_ {A = Spot} (record { cells = placed cs s l e a z; index = index-relocated cs is s l e; spot = e + a }) r) codes (h .3);
+    })
 
 no-here : (cs : List Cell) (is : List ℕ) (s a : ℕ) (z : ℤ) (r : Spot) → 0 < s → Lone cs s → Here cs is s a z r → ⊥
 no-here cs is s a z r some lone h = let k = first-of cs s (child-codes cs s) (listing cs s some) (h .0) in lone (k .0) (k .1) (k .2)
@@ -63,12 +61,10 @@ place-stays : (cs : List Cell) (is : List ℕ) (s a : ℕ) (z : ℤ) (r : Spot) 
 place-stays cs is s a z r some lone e =
     let k = lone-lent cs is s a z r some lone e in
     let d : ℕ = k .0 in
-    subst (λ x. (x .index ≡ is) × ((j : ℕ) → 0 < parent cs j → (j ≡ s → ⊥) → at (x .cells) j ≡ at cs j)) (k .1 .after) (
-      refl,
-      λ j used ns.
-          getD-set-other (set cs s (record { base = pos d; check = at cs s .check })) (d + a) j (record { base = z; check = pos s }) free-cell (λ y. omega (arith, k .1 .free, ap (parent cs) y))
-          ∙ getD-set-other cs s j (record { base = pos d; check = at cs s .check }) free-cell ns,
-    )
+    subst (λ x. (x .index ≡ is) × ((j : ℕ) → 0 < parent cs j → (j ≡ s → ⊥) → at (x .cells) j ≡ at cs j)) (k .1 .after)
+    (refl, λ j used ns.
+        getD-set-other (set cs s (record { base = pos d; check = at cs s .check })) (d + a) j (record { base = z; check = pos s }) free-cell (λ y. omega (arith, k .1 .free, ap (parent cs) y))
+        ∙ getD-set-other cs s j (record { base = pos d; check = at cs s .check }) free-cell ns)
 
 -- and so does what grows from it
 pub grow-stays : (cs : List Cell) (is : List ℕ) (s a : ℕ) (q more : List ℕ) (z : ℤ) (r : Spot) → Tree cs → Reach cs q s → NotLeaf cs s → Codes (a ∷ more) → Lone cs s → grow more cs is s a z ≡ Some r
@@ -82,13 +78,11 @@ grow-stays cs is s a q (b ∷ more) z r tree way leafless cds lone e =
     let one = place-stays cs is s a (pos 0) f (reach-some cs q s way) lone (k .1) in
     let d = lone-lent cs is s a (pos 0) f (reach-some cs q s way) lone (k .1) in
     let rest = grow-stays (f .cells) (f .index) (f .spot) b (a ∷ q) more z r (w .tree) (w .new) (λ m y. no-leaf m (sym (w .base) ∙ y)) (cds .1)
-    (place-lone cs is s a q (pos 0) tree way (cds .0 .0) (cds .0 .1) leafless fresh f (k .1)) (k .2) in (
-      rest .0 ∙ one .0,
-      λ j used ns.
-          let same = one .1 j used ns in
-          let nf : j ≡ f .spot → ⊥ = λ y. omega (arith, used, d .1 .free, ap (parent cs) (y ∙ sym (ap (λ x. x .spot) (d .1 .after)))) in
-          rest .1 j (omega (arith, ap (λ c. nat (c .check)) same)) nf ∙ same,
-    )
+    (place-lone cs is s a q (pos 0) tree way (cds .0 .0) (cds .0 .1) leafless fresh f (k .1)) (k .2) in
+    (rest .0 ∙ one .0, λ j used ns.
+        let same = one .1 j used ns in
+        let nf : j ≡ f .spot → ⊥ = λ y. omega (arith, used, d .1 .free, ap (parent cs) (y ∙ sym (ap (λ x. x .spot) (d .1 .after)))) in
+        rest .1 j (omega (arith, ap (λ c. nat (c .check)) same)) nf ∙ same)
 
 -- the cells before the new one was written
 abbrev pub mid-of : (cs : List Cell) (is : List ℕ) (s a : ℕ) (z : ℤ) (r : Spot) → Here cs is s a z r ⊎ There cs is s a z r → List Cell

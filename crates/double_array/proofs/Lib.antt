@@ -7,3 +7,4 @@ pub mod Uses
 pub mod Fields
 pub mod Frees
 pub mod Follows
+pub mod Growing
