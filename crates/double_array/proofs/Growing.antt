@@ -22,12 +22,12 @@ use Rattle.cells.proofs.Paths.{edge-up, reach-some, reach-used}
 use Rattle.cells.proofs.Counts.{within}
 use Rattle.cells.proofs.Renamings.{up-used}
 use Rattle.cells.proofs.Climbs.{codes-from}
-use Rattle.cells.proofs.Walks.{listing}
+use Rattle.cells.proofs.Walks.{listing, none-some, edge-child}
 use Rattle.cells.proofs.Families.{in-getD}
 use Rattle.cells.proofs.Returns.{family-after}
 use Rattle.cells.proofs.Sounds.{Tidy, tidy-of, reach-of, inner-is, inner-base}
 use Rattle.cells.proofs.Grows.{Here, There, no-some, some-same, then-some, Grew, grow-well}
-use Rattle.cells.proofs.Undoes.{mid-of, Freed, grow-freed, fresh-from, undoing}
+use Rattle.cells.proofs.Undoes.{mid-of, Freed, grow-freed, undoing}
 use Rattle.double_array.specs.Outcomes.{Parented}
 use Rattle.double_array.specs.Entries.{extended}
 use Rattle.double_array.proofs.Codes.{codes-within}
@@ -93,16 +93,17 @@ tree-parents cs tree some j =
     (λ nz. let w = tree .reach j (omega arith) in within cs (parent cs j) (up-used cs tree (w .0) j (w .1)))
     (cases-eq (parent cs j) 0)
 
--- a way of counting that is known by its two clauses
-counted : (f : List ℕ → ℕ → ℕ) → ((m : ℕ) → f [] m ≡ suc m) → ((b : ℕ) (l : List ℕ) (m : ℕ) → f (b ∷ l) m ≡ f l (suc m)) → (l : List ℕ) (m : ℕ) → f l m ≡ 1 + length l + m
-counted f none more [] m = none m ∙ (let e : suc m ≡ 1 + 0 + m = omega arith in e)
-counted f none more (b ∷ l) m = more b l m ∙ counted f none more l (suc m) ∙ (let e : 1 + length l + suc m ≡ 1 + suc (length l) + m = omega arith in e)
+-- m and the number of the codes
+abbrev steps : List ℕ → ℕ → ℕ
+steps [] m = suc m
+steps (b ∷ more) m = steps more (suc m)
 
-freed-is : (f : List ℕ → ℕ → ℕ) (more : List ℕ) (xs ys : List Cell) (t s : ℕ) → ((m : ℕ) → freed-up (f more m) xs t ≡ freed-up m ys s)
-    → ((m : ℕ) → f [] m ≡ suc m) → ((b : ℕ) (l : List ℕ) (m : ℕ) → f (b ∷ l) m ≡ f l (suc m)) → freed-up (1 + length more) xs t ≡ ys
-freed-is f more xs ys t s e none next =
-    let count : 1 + length more ≡ f more 0 = (let k : 1 + length more ≡ 1 + length more + 0 = omega arith in k) ∙ sym (counted f none next more 0) in
-    ap (λ n. freed-up n xs t) count ∙ e 0
+steps-is : (more : List ℕ) (m : ℕ) → 1 + length more + m ≡ steps more m
+steps-is [] m = omega arith
+steps-is (b ∷ more) m = omega (arith, steps-is more (suc m))
+
+fresh-from : (cs : List Cell) (s a : ℕ) → 0 < s → child cs s a ≡ None → (u : ℕ) → Edge cs s a u → ⊥
+fresh-from cs s a some none u g = none-some u (sym none ∙ edge-child cs s a some u g)
 
 -- s, of sound cells, has no child by the first of the codes
 module _ (cs : List Cell) (is : List ℕ) (s : ℕ) (sound : Sound cs is) where
@@ -138,5 +139,46 @@ module _ (cs : List Cell) (is : List ℕ) (s : ℕ) (sound : Sound cs is) where
     grown-room =
         let g = grow-freed cs is s a (way .0) more z r (tidy .tree) (way .1) leafless (codes-from (a ∷ more) (at-s .path)) (fresh-from cs s a some none) grew in
         let mid : List Cell = mid-of cs is s a (g .base) (g .first) (g .way) in
-        let same : freed-up (1 + length more) (r .cells) (r .spot) ≡ mid = freed-is _ more (r .cells) mid (r .spot) s (g .freed) (λ m. refl) (λ b l m. refl) in
+        let count : 1 + length more ≡ steps more 0 = omega (arith, steps-is more 0) in
+        let same : freed-up (1 + length more) (r .cells) (r .spot) ≡ mid = ap (λ n. freed-up n (r .cells) (r .spot)) count ∙ g .freed 0 in
         subst (λ l. (k : ℕ) → k < length (child-codes l s) → base-of cs s + getD (child-codes l s) k 0 < length cs) (sym same) (back-room (g .base) (g .first) (g .way))
+
+codes-take : (n : ℕ) (l : List ℕ) → all-codes l ≡ true → all-codes (take n l) ≡ true
+codes-take zero l e = refl
+codes-take (suc n) [] e = refl
+codes-take (suc n) (a ∷ l) e = let h = and-parts (is-code a) (all-codes l) e in and-from (is-code a) (all-codes (take n l)) (h .0) (codes-take n l (h .1))
+
+-- what has grown below s, n cells with the tip in r, can be undone, and that leaves the cells and the index of before
+pub record Undoable (cs : List Cell) (is : List ℕ) (s n : ℕ) (r : Spot) : Type 0 where
+  pub parents : Parented (r .cells)
+  pub room : (k : ℕ) → k < length (child-codes (freed-up n (r .cells) (r .spot)) s) → base-of cs s + getD (child-codes (freed-up n (r .cells) (r .spot)) s) k 0 < length cs
+  pub back : undo (r .cells) (r .index) s (base-of cs s) n (r .spot) ≡ record { cells = cs; index = is }
+
+module _ (cs : List Cell) (is : List ℕ) (s : ℕ) (codes : List ℕ) (sound : Sound cs is) (at-s : Open cs s codes) (none : child cs s (getD codes 0 0) ≡ None) (i : ℕ) (lt : i < length codes) (r : Spot) where
+  nothing-yet : Undoable cs is s 0 (record { cells = cs; index = is; spot = s })
+  nothing-yet =
+      let w = reach-of cs is sound s (at-s .used) in
+      let high : 1 < length cs = omega (arith, within cs s (at-s .used), reach-some cs (w .0) s (w .1)) in
+      record {
+        parents = tree-parents cs (tidy-of cs is sound high .tree) (omega arith);
+        room = codes-within cs s 258;
+        back = cond-true (eqb (base-of cs s) (base-of cs s)) (record { cells = cs; index = is }) _ (eq-eqb (base-of cs s) (base-of cs s) refl);
+      }
+
+  by-list : (xs : List ℕ) → xs ≡ take i codes → grow-on xs (pos 0) (record { cells = cs; index = is; spot = s }) ≡ Some r → Undoable cs is s i r
+  by-list [] e g =
+      let same : 0 ≡ i = ap length e ∙ length-take-le i codes (omega arith) in
+      subst (λ n. Undoable cs is s n r) same (subst (Undoable cs is s 0) (some-same _ r g) nothing-yet)
+  by-list (a ∷ more) e g =
+      let same : 1 + length more ≡ i = (let k : 1 + length more ≡ suc (length more) = omega arith in k) ∙ ap length e ∙ length-take-le i codes (omega arith) in
+      let first : getD codes 0 0 ≡ a = sym (ap (λ l. getD l 0 0) e ∙ getD-take i codes 0 0 (omega arith)) in
+      let here : Open cs s (a ∷ more) = record { used = at-s .used; inner = at-s .inner; path = subst (λ l. all-codes l ≡ true) (sym e) (codes-take i codes (at-s .path)) } in
+      let no-child : child cs s a ≡ None = subst (λ x. child cs s x ≡ None) first none in
+      subst (λ n. Undoable cs is s n r) same (record {
+        parents = grown-parents cs is s sound a more here no-child (pos 0) r g;
+        room = grown-room cs is s sound a more here no-child (pos 0) r g;
+        back = undoing cs is s a more (pos 0) r sound here no-child g;
+      })
+
+  pub undoable : grow-on (take i codes) (pos 0) (record { cells = cs; index = is; spot = s }) ≡ Some r → Undoable cs is s i r
+  undoable g = by-list (take i codes) refl g

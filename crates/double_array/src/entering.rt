@@ -5,7 +5,7 @@ ghost use lib.IntN.{negsuc};
 ghost use lib.ListN.{length, getD, drop};
 ghost use Rattle.std.specs.declared.option.Option.the-variants.{None};
 ghost use Rattle.cells.specs.Cells.{child as child-of, child-codes, is-leaf};
-ghost use Rattle.cells.specs.Placing.{freed-up, undo as undone};
+ghost use Rattle.cells.specs.Placing.{Arrays, freed-up, undo as undone};
 ghost use Rattle.cells.specs.Invariant.{Sound};
 ghost use Rattle.cells.specs.Laws.{Open};
 ghost use Rattle.double_array.specs.Outcomes.{Parented};
@@ -79,4 +79,71 @@ pub fn free_up(cells: &mut [Cell], t: usize, n: usize)
         cells[s] = Cell::FREE;
         s = above;
     }
+}
+
+// Undoes what an entry has done so far: its new cells are freed, and the family of the node moves back if it is at another base.
+fn undo(cells: &mut [Cell], index: &mut [u32], grown: Growth)
+    requires room { ⌜ length (now cells) < 2 ^ 31 ⌝ }
+    requires node { ⌜ grown .node < length (now cells) ⌝ }
+    requires tip { ⌜ grown .tip < length (now cells) ⌝ }
+    requires base { ⌜ grown .base < 2 ^ 31 ⌝ }
+    requires parents { ⌜ Parented (now cells) ⌝ }
+    requires to { ⌜ ((k : ℕ) → k < length (child-codes (freed-up (grown .new) (now cells) (grown .tip)) (grown .node)) → grown .base + getD (child-codes (freed-up (grown .new) (now cells) (grown .tip)) (grown .node)) k 0 < length (now cells)) ⌝ }
+    ensures { λ _. ⌜ record { cells = now (cells .exit); index = now (index .exit) } ≡ undone (now (cells .entry)) (now (index .entry)) (grown .node) (grown .base) (grown .new) (grown .tip) ⌝ }
+{
+    free_up(cells, grown.tip, grown.new);
+    if cell_number(cells[grown.node].base) != grown.base {
+        let mut codes = [0u16; 258];
+        let n = child_codes(cells, grown.node, &mut codes);
+        move_family(cells, index, grown.node, &codes[..n], grown.base);
+    }
+}
+
+// The base of the leaf with this number.
+fn leaf_base(number: u32) -> i32
+    requires { ⌜ (0 < number) × (number < 2 ^ 31) ⌝ }
+    ensures { λ r. ⌜ r ≡ negsuc (number - 1) ⌝ }
+{
+    -(number as i32)
+}
+
+// Gives `s` a child by the first code, that one a child by the next, and so on to a leaf with the number. Where one has no
+// place, all is undone.
+pub fn extend(
+    cells: &mut [Cell],
+    index: &mut [u32],
+    s: usize,
+    codes: &[u16],
+    number: u32,
+) -> bool
+    requires room { ⌜ length (now cells) < 2 ^ 31 ⌝ }
+    requires number { ⌜ (0 < number) × (number < 2 ^ 31) ⌝ }
+    requires some { ⌜ 0 < length (now codes) ⌝ }
+    requires sound { ⌜ Sound (now cells) (now index) ⌝ }
+    requires node { ⌜ Open (now cells) s (now codes) ⌝ }
+    requires missing { ⌜ child-of (now cells) s (getD (now codes) 0 0) ≡ None ⌝ }
+    requires within { ⌜ s < length (now cells) ⌝ }
+    ensures { λ r. ⌜ Extended (now (cells .entry)) (now (index .entry)) s (now (codes .entry)) (number - 1) r (now (cells .exit)) (now (index .exit)) ⌝ }
+{
+    let before = cell_number(cells[s].base);
+    let leaf = leaf_base(number);
+    let mut tip = s;
+    for i in 0..codes.len() {
+        let base = if i + 1 < codes.len() { 0 } else { leaf };
+        match give_child(cells, index, tip, codes[i], base) {
+            Some(t) => tip = t,
+            None => {
+                let grown = Growth {
+                    node: s,
+                    base: before,
+                    new: i,
+                    tip,
+                };
+                undo(cells, index, grown);
+                return false;
+            }
+        }
+    }
+    note_leaf(index, leaf, tip);
+    true
 }

@@ -15,6 +15,7 @@ pub use edges::child_codes;
 pub use edges::has_child;
 pub use edges::is_free;
 pub use edges::walk;
+pub use entering::extend;
 pub use entering::follow;
 pub use entering::free_up;
 pub use entering::is_open;

@@ -3,6 +3,7 @@ ghost use mathlib.Core.Path.{_≡_};
 ghost use mathlib.Core.List.{List};
 ghost use Prim.Native.Nat.{ℕ, _+_, _^_, _<_, _≤_};
 ghost use lib.ListN.{length, getD, take, replicate};
+ghost use Rattle.std.specs.Options.{Cases};
 ghost use Rattle.cells.specs.Cells.{at, nat, base-of, root-cell, free-cell};
 ghost use Rattle.cells.specs.Placing.{lowest, repointed, moved, moved-list, reindexed, moves, index-moves, relocated, index-relocated};
 ghost use Rattle.cells.specs.Laws.{cleared};
@@ -120,7 +121,8 @@ pub fn give_child(
 ) -> Option<usize>
     requires room { ⌜ length (now cells) < 2 ^ 31 ⌝ }
     requires within { ⌜ s < length (now cells) ⌝ }
-    ensures { λ r. ⌜ Given (now (cells .entry)) (now (index .entry)) s code base r (now (cells .exit)) (now (index .exit)) ⌝ }
+    ensures place { λ r. ⌜ Given (now (cells .entry)) (now (index .entry)) s code base r (now (cells .exit)) (now (index .exit)) ⌝ }
+    ensures within { λ r. ⌜ Cases r (Unit {0}) (λ t. t < length (now (cells .exit))) ⌝ }
 {
     let mut codes = [0u16; 258];
     let n = child_codes(cells, s, &mut codes);
