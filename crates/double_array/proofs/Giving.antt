@@ -16,11 +16,11 @@ use Rattle.cells.specs.Placing.{Spot, AllFree, Lowest, lowest, relocated, index
 use Rattle.cells.proofs.Lowests.{lowest-holds}
 use Rattle.double_array.proofs.Codes.{codes-within}
 
-some-yes : (xs : List ℕ) → 0 < length xs → some-code xs ≡ true
+pub some-yes : (xs : List ℕ) → 0 < length xs → some-code xs ≡ true
 some-yes [] h = absurd (omega arith)
 some-yes (x ∷ xs) h = refl
 
-some-no : (xs : List ℕ) → length xs ≤ 0 → some-code xs ≡ false
+pub some-no : (xs : List ℕ) → length xs ≤ 0 → some-code xs ≡ false
 some-no [] h = refl
 some-no (x ∷ xs) h = absurd (omega arith)
 

@@ -8,3 +8,4 @@ pub mod Fields
 pub mod Frees
 pub mod Follows
 pub mod Growing
+pub mod Refusals

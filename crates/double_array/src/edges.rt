@@ -3,7 +3,7 @@ ghost use mathlib.Core.Path.{_≡_};
 ghost use Prim.Native.Nat.{ℕ, _+_, _^_, _<_, _≤_};
 ghost use lib.ListN.{length, getD, take};
 ghost use Rattle.std.specs.Options.{Cases};
-ghost use Rattle.cells.specs.Cells.{is-free, child as child-of, child-codes, some-code};
+ghost use Rattle.cells.specs.Cells.{is-free, is-leaf, child as child-of, child-codes, some-code};
 ghost use Rattle.cells.specs.Walking.{walk as walk-from};
 use cells::Cell;
 
@@ -12,6 +12,14 @@ pub fn is_free(cells: &[Cell], t: usize) -> bool
     ensures { λ r. ⌜ r ≡ is-free (now (cells .entry)) t ⌝ }
 {
     t < cells.len() && cells[t].base == 0 && cells[t].check == 0
+}
+
+// Whether `s` is a leaf.
+pub fn is_leaf(cells: &[Cell], s: usize) -> bool
+    requires { ⌜ s < length (now cells) ⌝ }
+    ensures { λ r. ⌜ r ≡ is-leaf (now (cells .entry)) s ⌝ }
+{
+    cells[s].base < 0
 }
 
 // The child of `s` by the code.

@@ -12,6 +12,7 @@ ghost use Rattle.double_array.specs.Outcomes.{Parented};
 ghost use Rattle.double_array.specs.Entries.{follow as followed, is-path, is-open, Entry, Extended};
 use super::edges::child;
 use super::edges::child_codes;
+use super::edges::is_leaf;
 use super::fault::PathFault;
 use super::paths::all_codes;
 use super::placing::cell_number;
@@ -146,4 +147,35 @@ pub fn extend(
     }
     note_leaf(index, leaf, tip);
     true
+}
+
+// Enters the path with the number, or says why it is refused and changes nothing.
+pub fn enter(
+    cells: &mut [Cell],
+    index: &mut [u32],
+    path: &[u16],
+    number: u32,
+) -> Result<(), PathFault>
+    requires room { ⌜ length (now cells) < 2 ^ 31 ⌝ }
+    requires sound { ⌜ Sound (now cells) (now index) ⌝ }
+    ensures { λ r. ⌜ Entry (now (cells .entry)) (now (index .entry)) (now (path .entry)) number r (now (cells .exit)) (now (index .exit)) ⌝ }
+{
+    if !is_path(path) {
+        return Err(PathFault::Path);
+    }
+    if !is_open(index, number) {
+        return Err(PathFault::Number);
+    }
+    if cells.len() < 2 {
+        return Err(PathFault::NoPlace);
+    }
+    let (s, i) = follow(cells, path);
+    if i == path.len() || is_leaf(cells, s) {
+        return Err(PathFault::Blocked);
+    }
+    if extend(cells, index, s, &path[i..], number) {
+        Ok(())
+    } else {
+        Err(PathFault::NoPlace)
+    }
 }
