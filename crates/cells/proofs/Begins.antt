@@ -1,6 +1,6 @@
 -- Beginnings of held paths.
 use mathlib.Core.Path.{_≡_}
-use mathlib.Core.List.{List, [], _∷_, _++_}
+use mathlib.Core.List.{List, [], _++_}
 use Prim.Native.Nat.{ℕ}
 use Rattle.cells.specs.declared.Cell.{Cell}
 use Rattle.cells.specs.Trees.{In, Apart, Held}

@@ -1,12 +1,12 @@
 -- What a change of the cells does to the tree.
 use mathlib.Core.Path.{_≡_}
-use mathlib.Core.List.{List, [], _∷_}
+use mathlib.Core.List.{List}
 use mathlib.Core.Logic.{_⊎_}
-use Prim.Native.Nat.{ℕ, zero, suc, _+_, _<_}
+use Prim.Native.Nat.{ℕ, _+_, _<_}
 use lib.IntN.{ℤ, pos, negsuc}
 use lib.ListN.{length}
 use Rattle.cells.specs.declared.Cell.{Cell}
-use Rattle.cells.specs.Cells.{free-cell, at, base-of, parent}
+use Rattle.cells.specs.Cells.{free-cell, at, parent}
 use Rattle.cells.specs.Trees.{Edge, Reach, Tree, Held, WholeBut}
 
 -- the used cells of cs stand in ds at the places f, each with its own base, and nothing else does

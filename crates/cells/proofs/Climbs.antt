@@ -1,24 +1,23 @@
 -- Walking and climbing follow the paths of the tree.
 use mathlib.Core.Path.{_≡_, refl, ap, sym, subst, _∙_}
-use mathlib.Core.Bool.{Bool, true, false, cond, _&&_}
+use mathlib.Core.Bool.{true}
 use mathlib.Core.List.{List, [], _∷_, _++_, append-nil}
-use mathlib.Core.Logic.{⊎-elim, _⊎_, inl, inr}
 use Prim.Native.Nat.{ℕ, zero, suc, _+_, _-_, _<_, _≤_}
 use native.Mathlib.Omega.{arith}
-use lib.Dec.{ltb, eqb}
+use lib.Dec.{eqb}
 use lib.IntN.{ℤ, pos, negsuc}
 use lib.ListN.{length}
-use Rattle.std.specs.declared.option.Option.{Option}
 use Rattle.std.specs.declared.option.Option.the-variants.{Some, None}
 use Rattle.std.proofs.shelf.Tests.{cond-true, cond-false, cond-both, and-parts, and-from, lt-ltb, ltb-true, eq-eqb, ne-eqb}
 use Rattle.cells.specs.declared.Cell.{Cell}
-use Rattle.cells.specs.Cells.{at, nat, base-of, parent, number, is-code, all-codes}
+use Rattle.cells.specs.Cells.{at, base-of, parent, number, is-code, all-codes}
 use Rattle.cells.specs.Walking.{onward, walk, cell-at, number-at, turned, climb, path-to}
 use Rattle.cells.specs.Trees.{Edge, Reach, Tree, Held}
 use Rattle.cells.specs.Laws.{Walks}
+use Rattle.cells.proofs.Basics.{no-some}
 use Rattle.cells.proofs.Paths.{edge-up, root-apart}
 use Rattle.cells.proofs.Counts.{depth}
-use Rattle.cells.proofs.Walks.{Codes, none-some, onward-some, begun, walk-reach, reach-walk}
+use Rattle.cells.proofs.Walks.{Codes, onward-some, begun, walk-reach, reach-walk}
 
 -- turning round
 pub turned-turned : (p q r : List ℕ) → turned (turned p q) r ≡ turned q (p ++ r)
@@ -52,18 +51,18 @@ reach-codes cs (a ∷ p) q t r =
 pub cell-reach : (cs : List Cell) (p : List ℕ) (t : ℕ) → cell-at cs p ≡ Some t → Reach cs (turned p []) t
 cell-reach cs p t =
     cond-both (all-codes p) (walk cs 1 p) None (λ o. o ≡ Some t → Reach cs (turned p []) t)
-    (λ c e. walk-reach cs p [] 1 t (codes-from p c) refl e) (λ c e. absurd (none-some t e))
+    (λ c e. walk-reach cs p [] 1 t (codes-from p c) refl e) (λ c e. absurd (no-some t e))
 
 pub reach-cell : (cs : List Cell) (p : List ℕ) (t : ℕ) → Reach cs (turned p []) t → cell-at cs p ≡ Some t
 reach-cell cs p t r = cond-true (all-codes p) (walk cs 1 p) None (reach-codes cs p [] t r) ∙ reach-walk cs p [] 1 t refl r
 
 -- the number of a leaf
 pub number-is : (z : ℤ) (n : ℕ) → number z ≡ Some (suc n) → z ≡ negsuc n
-number-is (pos k) n e = absurd (none-some (suc n) e)
+number-is (pos k) n e = absurd (no-some (suc n) e)
 number-is (negsuc k) n e = let same : k ≡ n = cc in ap negsuc same
 
 number-some : (z : ℤ) → number z ≡ Some 0 → ⊥
-number-some (pos k) e = none-some 0 e
+number-some (pos k) e = no-some 0 e
 number-some (negsuc k) e = let z : suc k ≡ 0 = cc in omega arith
 
 pub number-held : (cs : List Cell) (p : List ℕ) (n : ℕ) → number-at cs p ≡ Some (suc n) → Held cs (turned p []) n

@@ -1,23 +1,22 @@
 -- The used cells are as many as the beginnings of the held paths, and the root.
-use mathlib.Core.Path.{_≡_, refl, ap, sym, subst, _∙_}
+use mathlib.Core.Path.{_≡_, refl, ap, sym, subst}
 use mathlib.Core.List.{List, [], _∷_, _++_, append-assoc}
 use mathlib.Core.Logic.{⊎-elim, _⊎_, inl, inr}
 use Prim.Native.Nat.{ℕ, zero, suc, _+_, _-_, _<_, _≤_}
 use native.Mathlib.Omega.{arith}
-use native.Mathlib.Nat.{add-zero, add-suc}
+use native.Mathlib.Nat.{add-zero}
 use lib.Dec.{ltb}
-use lib.IntN.{ℤ, pos, negsuc}
 use lib.ListN.{length}
 use Rattle.std.specs.Iters.{counting}
 use Rattle.std.proofs.shelf.Lists.{getD-past}
 use Rattle.std.proofs.shelf.Counted.{length-counting}
-use Rattle.std.proofs.shelf.Tests.{cases-eq, cases-lt, ltb-true, lt-ltb}
+use Rattle.std.proofs.shelf.Tests.{cases-lt, ltb-true, lt-ltb}
 use Rattle.cells.specs.declared.Cell.{Cell}
-use Rattle.cells.specs.Cells.{free-cell, at, nat, base-of, parent}
-use Rattle.cells.specs.Trees.{Edge, Reach, Tree, In, Apart, Held, Ends, Whole}
+use Rattle.cells.specs.Cells.{free-cell, nat, parent}
+use Rattle.cells.specs.Trees.{Edge, Reach, Tree, In, Apart, Held, Whole}
 use Rattle.cells.proofs.Begins.{Begins, Beginnings}
 use Rattle.cells.specs.Counting.{used}
-use Rattle.cells.proofs.Paths.{edge-up, reach-some, reach-same, root-apart, reach-unique, reach-used}
+use Rattle.cells.proofs.Paths.{reach-some, reach-same, root-apart, reach-unique, reach-used}
 use Rattle.cells.proofs.Pigeons.{pigeons, in-counting, apart-counting, in-kept, from-kept, apart-kept}
 
 pub within : (cs : List Cell) (t : ℕ) → 0 < parent cs t → t < length cs

@@ -2,9 +2,9 @@
 use mathlib.Core.Path.{_≡_, refl, ap, sym, subst, _∙_}
 use mathlib.Core.List.{List, [], _∷_}
 use mathlib.Core.Logic.{⊎-elim, _⊎_, inl, inr}
-use Prim.Native.Nat.{ℕ, zero, suc, _+_, _<_, _≤_}
+use Prim.Native.Nat.{ℕ, _+_, _<_}
 use native.Mathlib.Omega.{arith}
-use lib.IntN.{ℤ, pos, negsuc}
+use lib.IntN.{ℤ, pos}
 use lib.ListN.{length, set}
 use Rattle.std.proofs.shelf.Lists.{getD-set-same, getD-set-other}
 use Rattle.std.proofs.shelf.Tests.{cases-eq}
@@ -12,9 +12,9 @@ use Rattle.cells.specs.declared.Cell.{Cell}
 use Rattle.cells.specs.Cells.{free-cell, at, nat, base-of, parent}
 use Rattle.cells.specs.Trees.{Edge, Reach, Tree, Lone}
 use Rattle.cells.proofs.Changes.{Grown, Shrunk, Same}
-use Rattle.cells.proofs.Paths.{edge-up, reach-some, reach-same, root-apart, reach-unique, reach-used}
+use Rattle.cells.proofs.Paths.{edge-up, reach-some, root-apart, reach-unique, reach-used}
 use Rattle.cells.proofs.Counts.{within}
-use Rattle.cells.proofs.Renamings.{up-used, not-own, own-root}
+use Rattle.cells.proofs.Renamings.{up-used}
 
 -- an edge between cells that stay
 pub edge-kept : (cs es : List Cell) (r a u : ℕ) → base-of es r ≡ base-of cs r → at es u .check ≡ at cs u .check → Edge cs r a u → Edge es r a u

@@ -1,9 +1,9 @@
 -- A path is entered: it is held in addition, and each other path is as before.
 use mathlib.Core.Path.{_≡_, refl, ap, sym, subst, _∙_}
-use mathlib.Core.Bool.{Bool, true, false, cond, _&&_}
+use mathlib.Core.Bool.{cond}
 use mathlib.Core.List.{List, [], _∷_}
 use mathlib.Core.Logic.{⊎-elim, _⊎_, inl, inr}
-use Prim.Native.Nat.{ℕ, zero, suc, _+_, _<_, _≤_}
+use Prim.Native.Nat.{ℕ, suc, _<_}
 use native.Mathlib.Omega.{arith}
 use lib.IntN.{ℤ, pos, negsuc}
 use lib.ListN.{length, getD, set}
@@ -12,19 +12,19 @@ use Rattle.std.specs.declared.option.Option.the-variants.{Some, None}
 use Rattle.std.proofs.shelf.Lists.{length-set}
 use Rattle.std.proofs.shelf.Tests.{cond-both, cases-eq, cases-lt}
 use Rattle.cells.specs.declared.Cell.{Cell}
-use Rattle.cells.specs.Cells.{free-cell, at, nat, base-of, parent, is-leaf, child, child-codes, some-code, all-codes}
+use Rattle.cells.specs.Cells.{at, nat, is-leaf, child, child-codes, all-codes}
 use Rattle.cells.specs.Placing.{Arrays, Spot, place, grow, extend, found-or, enter-from, enter}
-use Rattle.cells.specs.Walking.{number-at, turned}
-use Rattle.cells.specs.Trees.{Edge, Reach, Tree, Held, NotLeaf, Whole}
+use Rattle.cells.specs.Walking.{turned}
+use Rattle.cells.specs.Trees.{Edge, Reach, Held, NotLeaf}
 use Rattle.cells.specs.Invariant.{Sound}
 use Rattle.cells.specs.Laws.{Enters}
+use Rattle.cells.proofs.Basics.{no-some, some-same, leaf-same, no-codes}
 use Rattle.cells.proofs.Paths.{reach-some, reach-same}
-use Rattle.cells.proofs.Walks.{Codes, none-some, begun, child-edge, edge-child, listing}
+use Rattle.cells.proofs.Walks.{Codes, begun, child-edge, edge-child, listing}
 use Rattle.cells.proofs.Climbs.{turned-same, codes-from, held-number}
 use Rattle.cells.proofs.Families.{first-of, some-of}
-use Rattle.cells.proofs.Leaves.{Indexed}
 use Rattle.cells.proofs.Sounds.{Tidy, tidy-of, sound-of, inner-is, short-root, short-child}
-use Rattle.cells.proofs.Grows.{no-some, some-same, then-some, place-ways, Grew, grow-well, grow-index, grow-wide}
+use Rattle.cells.proofs.Grows.{then-some, place-ways, grow-well, grow-index, grow-wide}
 use Rattle.cells.proofs.Numbers.{number-none, numbers-but}
 
 -- a path that leads somewhere begins at the root
@@ -45,10 +45,6 @@ pub record Entered (cs : List Cell) (is : List ℕ) (p : List ℕ) (n : ℕ) (xs
   pub new : Held (xs .cells) p n
   pub held : (q : List ℕ) (m : ℕ) → Held cs q m → Held (xs .cells) q m
   pub held-again : (q : List ℕ) (m : ℕ) → Held (xs .cells) q m → Held cs q m ⊎ ((q ≡ p) × (n ≡ m))
-
--- the number of a leaf
-leaf-same : (n m : ℕ) → negsuc n ≡ negsuc m → n ≡ m
-leaf-same n m e = cc
 
 module _ (cs : List Cell) (is : List ℕ) (n : ℕ) (h : Tidy cs is) (none : getD is n 0 ≡ 0) where
   extend-well : (s a : ℕ) (q more : List ℕ) (xs : Arrays) → Reach cs q s → NotLeaf cs s → Codes (a ∷ more) → ((u : ℕ) → Edge cs s a u → ⊥) → extend more cs is s a n ≡ Some xs → Entered cs is (turned more (a ∷ q)) n xs
@@ -77,9 +73,6 @@ module _ (cs : List Cell) (is : List ℕ) (n : ℕ) (h : Tidy cs is) (none : get
         held = w .held;
         held-again = λ p m y. ⊎-elim (λ o. inl o) (λ o. inr (o .0, leaf-same n m (o .1))) (w .held-again p m y);
       })
-    where
-      no-codes : (l : List ℕ) → l ≡ [] → some-code l ≡ true → ⊥
-      no-codes l e t = let y : _≡_ {A = Bool} false true = ap some-code (sym e) ∙ t in let z : _≡_ {A = ℕ} 0 1 = cc in omega arith
 
   -- at one code, with what follows if its edge is there
   enter-step : (a : ℕ) (more q : List ℕ) (s : ℕ) (xs : Arrays) → Reach cs q s → Codes (a ∷ more) → ((t : ℕ) → Reach cs (a ∷ q) t → enter-from cs is t more n ≡ Some xs → Entered cs is (turned more (a ∷ q)) n xs)
@@ -88,7 +81,7 @@ module _ (cs : List Cell) (is : List ℕ) (n : ℕ) (h : Tidy cs is) (none : get
   enter-step a more q s xs way cds on None is-none e =
       cond-both (is-leaf cs s) None (extend more cs is s a n) (λ o. o ≡ Some xs → Entered cs is (turned more (a ∷ q)) n xs)
       (λ y e. absurd (no-some xs e))
-      (λ y e. extend-well s a q more xs way (inner-is (at cs s .base) y) cds (λ u g. none-some u (sym is-none ∙ edge-child cs s a (reach-some cs q s way) u g)) e)
+      (λ y e. extend-well s a q more xs way (inner-is (at cs s .base) y) cds (λ u g. no-some u (sym is-none ∙ edge-child cs s a (reach-some cs q s way) u g)) e)
       e
 
   pub enter-well : (p q : List ℕ) (s : ℕ) (xs : Arrays) → Reach cs q s → Codes p → enter-from cs is s p n ≡ Some xs → Entered cs is (turned p q) n xs

@@ -1,24 +1,20 @@
 -- The child codes of a node, and the room that a search has found for them.
 use mathlib.Core.Path.{_≡_, refl, ap, sym, subst, _∙_}
-use mathlib.Core.Bool.{Bool, true, false, cond, _&&_}
+use mathlib.Core.Bool.{true, false, cond, _&&_}
 use mathlib.Core.List.{List, [], _∷_, _++_}
-use mathlib.Core.Logic.{⊎-elim, _⊎_, inl, inr}
-use Prim.Native.Nat.{ℕ, zero, suc, _+_, _<_, _≤_}
+use mathlib.Core.Logic.{inl, inr}
+use Prim.Native.Nat.{ℕ, zero, suc, _+_, _<_}
 use native.Mathlib.Omega.{arith}
 use lib.Dec.{ltb}
-use lib.IntN.{ℤ, pos, negsuc}
 use lib.ListN.{length, getD}
 use Rattle.std.specs.Options.{isSome}
-use Rattle.std.specs.declared.option.Option.{Option}
-use Rattle.std.specs.declared.option.Option.the-variants.{Some, None}
 use Rattle.std.proofs.shelf.Tests.{both-ways}
 use Rattle.cells.specs.declared.Cell.{Cell}
-use Rattle.cells.specs.Cells.{at, nat, base-of, parent, child, codes-below, child-codes, some-code}
+use Rattle.cells.specs.Cells.{nat, base-of, parent, child, codes-below, some-code}
 use Rattle.cells.specs.Placing.{AllFree}
-use Rattle.cells.specs.Trees.{In, Edge, Reach, Tree, Lone, Ends, Family, Room}
+use Rattle.cells.specs.Trees.{In, Edge, Tree, Lone, Family, Room}
 use Rattle.cells.proofs.Paths.{edge-up, reach-some}
 use Rattle.cells.proofs.Counts.{within}
-use Rattle.cells.proofs.Walks.{child-edge, edge-child, listing}
 
 pub in-getD : (xs : List ℕ) (k : ℕ) → k < length xs → In xs (getD xs k 0)
 in-getD [] k h = absurd (omega arith)
@@ -64,10 +60,6 @@ some-of cs s (c ∷ more) fam a u k = refl
 pub lone-codes : (cs : List Cell) (s : ℕ) (codes : List ℕ) → Family cs s codes → Lone cs s → codes ≡ []
 lone-codes cs s [] fam lone = refl
 lone-codes cs s (c ∷ more) fam lone = absurd (lone c (base-of cs s + c) (fam .sound c (inl refl)))
-
-pub none-code : (codes : List ℕ) → some-code codes ≡ false → codes ≡ []
-none-code [] e = refl
-none-code (c ∷ more) e = absurd (both-ways true e refl)
 
 -- the child codes depend on which children there are
 pub codes-same : (cs es : List Cell) (s n : ℕ) → ((a : ℕ) → 0 < a → a < n → isSome (child cs s a) ≡ isSome (child es s a)) → codes-below cs s n ≡ codes-below es s n

@@ -1,36 +1,32 @@
 -- A node gets a child, and a path grows from it.
 use mathlib.Core.Path.{_≡_, refl, ap, sym, subst, _∙_}
-use mathlib.Core.Bool.{Bool, true, false, cond, _&&_}
+use mathlib.Core.Bool.{true, _&&_}
 use mathlib.Core.List.{List, [], _∷_, _++_}
 use mathlib.Core.Logic.{⊎-elim, _⊎_, inl, inr}
-use Prim.Native.Nat.{ℕ, zero, suc, _+_, _<_, _≤_}
+use Prim.Native.Nat.{ℕ, _+_, _<_}
 use native.Mathlib.Omega.{arith}
 use lib.IntN.{ℤ, pos, negsuc}
 use lib.ListN.{length, getD, set, length-append}
 use Rattle.std.specs.declared.option.Option.{Option}
 use Rattle.std.specs.declared.option.Option.the-variants.{Some, None}
 use Rattle.std.proofs.shelf.Lists.{getD-past, length-set}
-use Rattle.std.proofs.shelf.Tests.{cond-both, and-parts, both-ways, cases-eq, cases-lt}
+use Rattle.std.proofs.shelf.Tests.{cond-both, and-parts, cases-eq, cases-lt}
 use Rattle.cells.specs.declared.Cell.{Cell}
-use Rattle.cells.specs.Cells.{free-cell, at, nat, base-of, parent, is-free, child-codes, some-code}
+use Rattle.cells.specs.Cells.{at, nat, base-of, parent, is-free, child-codes, some-code}
 use Rattle.cells.specs.Placing.{lowest, Lowest, relocated, index-relocated, placed, Spot, placed-at, place, then-place, grow}
 use Rattle.cells.specs.Walking.{turned}
-use Rattle.cells.specs.Trees.{In, Edge, Reach, Tree, Held, Lone, NotLeaf, Ends, WholeBut, Whole, Family, Room}
+use Rattle.cells.specs.Trees.{In, Edge, Reach, Tree, Held, Lone, NotLeaf, WholeBut, Family, Room}
 use Rattle.cells.proofs.Changes.{Placed}
+pub use Rattle.cells.proofs.Basics.{no-some, some-same}
+use Rattle.cells.proofs.Basics.{not-leaf}
 use Rattle.cells.proofs.Lowests.{decides-free, lowest-holds}
-use Rattle.cells.proofs.Paths.{edge-up, reach-some, reach-same, root-apart, reach-unique, reach-used}
+use Rattle.cells.proofs.Paths.{reach-some, reach-same, reach-used}
 use Rattle.cells.proofs.Walks.{Codes, listing, in-left, in-right}
 use Rattle.cells.proofs.Relocations.{moves-well}
-use Rattle.cells.proofs.Returns.{held-again, used-s}
+use Rattle.cells.proofs.Returns.{held-again}
 use Rattle.cells.proofs.Places.{taking, placing, free-m, long-m, m}
 use Rattle.cells.proofs.Leaves.{Indexed, index-moved, index-open, index-leaf, leaf-used, length-index-moves}
 use Rattle.cells.proofs.Families.{room-from, inner-of}
-
-pub no-some : {A : Type 0} (x : A) → _≡_ {A = Option A} None (Some x) → ⊥
-no-some x e = let z : _≡_ {A = ℕ} 0 1 = cc in omega arith
-
-pub some-same : {A : Type 0} (x y : A) → _≡_ {A = Option A} (Some x) (Some y) → x ≡ y
-some-same x y e = cc
 
 pub then-some : {X : Type 0} (o : Option Spot) (g : Spot → Option X) (x : X) → then-place o g ≡ Some x → (r : Spot) × (o ≡ Some r) × (g r ≡ Some x)
 then-some None g x e = absurd (no-some x e)
@@ -163,9 +159,6 @@ pub record Grew (cs : List Cell) (s : ℕ) (z : ℤ) (r : Spot) (p : List ℕ) :
   pub ahead : (q : List ℕ) (u : ℕ) → Reach cs q u → (v : ℕ) × Reach (r .cells) q v
   pub long : length (r .cells) ≡ length cs
 
-pub no-leaf : (m : ℕ) → pos 0 ≡ negsuc m → ⊥
-no-leaf m e = let y : _≡_ {A = ℕ} 0 1 = cc in omega arith
-
 pub site-long : (cs : List Cell) (is : List ℕ) (s : ℕ) (z : ℤ) (r : Spot) → Site cs is s z r → length (r .cells) ≡ length cs
 site-long cs is s z r k = ap length (k .cells) ∙ length-set (k .mid) (r .spot) _ ∙ k .long
 
@@ -186,7 +179,7 @@ grow-well cs is s a q (b ∷ more) z r tree way leafless cds fresh e =
     let k = then-some (place cs is s a (pos 0)) (λ x. grow more (x .cells) (x .index) (x .spot) b z) r e in
     let f : Spot = k .0 in
     let w = place-well cs is s a q (pos 0) tree way (cds .0 .0) (cds .0 .1) leafless fresh f (k .1) .1 in
-    let rest = grow-well (f .cells) (f .index) (f .spot) b (a ∷ q) more z r (w .tree) (w .new) (λ m y. no-leaf m (sym (w .base) ∙ y)) (cds .1)
+    let rest = grow-well (f .cells) (f .index) (f .spot) b (a ∷ q) more z r (w .tree) (w .new) (λ m y. not-leaf 0 m (sym (w .base) ∙ y)) (cds .1)
     (place-lone cs is s a q (pos 0) tree way (cds .0 .0) (cds .0 .1) leafless fresh f (k .1) b) (k .2) in
     record {
       tree = rest .tree;
@@ -195,7 +188,7 @@ grow-well cs is s a q (b ∷ more) z r tree way leafless cds fresh e =
       base = rest .base;
       held = λ p m h. rest .held p m (w .held p m h);
       held-again = λ p m h. ⊎-elim
-          (λ o. ⊎-elim (λ y. inl y) (λ y. absurd (no-leaf m (y .1))) (w .held-again p m o))
+          (λ o. ⊎-elim (λ y. inl y) (λ y. absurd (not-leaf 0 m (y .1))) (w .held-again p m o))
           (λ o. inr o)
           (rest .held-again p m h);
       ahead = λ p u y. rest .ahead p _ (w .ahead p u y);
@@ -215,7 +208,7 @@ grow-index cs is s a q (b ∷ more) n r tree way leafless cds fresh ix none e =
     let f : Spot = k .0 in
     let w = place-well cs is s a q (pos 0) tree way (cds .0 .0) (cds .0 .1) leafless fresh f (k .1) .1 in
     let t = place-site cs is s a q (pos 0) tree way (cds .0 .0) (cds .0 .1) leafless fresh f (k .1) in
-    grow-index (f .cells) (f .index) (f .spot) b (a ∷ q) more n r (w .tree) (w .new) (λ m y. no-leaf m (sym (w .base) ∙ y)) (cds .1)
+    grow-index (f .cells) (f .index) (f .spot) b (a ∷ q) more n r (w .tree) (w .new) (λ m y. not-leaf 0 m (sym (w .base) ∙ y)) (cds .1)
     (place-lone cs is s a q (pos 0) tree way (cds .0 .0) (cds .0 .1) leafless fresh f (k .1) b)
     (subst (λ l. Indexed l (f .index)) (sym (t .cells)) (index-open (t .mid) (f .index) (f .spot) s (t .tree) (t .free) (t .indexed ix)))
     (place-none cs is s a q (pos 0) tree way (cds .0 .0) (cds .0 .1) leafless fresh f (k .1) n ix none)
@@ -227,6 +220,6 @@ grow-wide cs is s a q (b ∷ more) z r tree way leafless cds fresh e =
     let k = then-some (place cs is s a (pos 0)) (λ x. grow more (x .cells) (x .index) (x .spot) b z) r e in
     let f : Spot = k .0 in
     let w = place-well cs is s a q (pos 0) tree way (cds .0 .0) (cds .0 .1) leafless fresh f (k .1) .1 in
-    grow-wide (f .cells) (f .index) (f .spot) b (a ∷ q) more z r (w .tree) (w .new) (λ m y. no-leaf m (sym (w .base) ∙ y)) (cds .1)
+    grow-wide (f .cells) (f .index) (f .spot) b (a ∷ q) more z r (w .tree) (w .new) (λ m y. not-leaf 0 m (sym (w .base) ∙ y)) (cds .1)
     (place-lone cs is s a q (pos 0) tree way (cds .0 .0) (cds .0 .1) leafless fresh f (k .1) b) (k .2)
     ∙ place-site cs is s a q (pos 0) tree way (cds .0 .0) (cds .0 .1) leafless fresh f (k .1) .wide

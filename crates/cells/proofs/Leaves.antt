@@ -1,24 +1,25 @@
 -- The index leads each number to its leaf, after a move too.
 use mathlib.Core.Path.{_≡_, refl, ap, sym, subst, _∙_}
-use mathlib.Core.Bool.{Bool, true, false, cond}
+use mathlib.Core.Bool.{true}
 use mathlib.Core.List.{List, [], _∷_}
 use mathlib.Core.Logic.{⊎-elim, _⊎_, inl, inr}
-use Prim.Native.Nat.{ℕ, zero, suc, _+_, _<_, _≤_}
+use Prim.Native.Nat.{ℕ, _+_, _<_}
 use native.Mathlib.Omega.{arith}
 use lib.Dec.{ltb}
 use lib.IntN.{ℤ, pos, negsuc}
 use lib.Signed.{ltZ}
 use lib.ListN.{length, getD, set}
 use Rattle.std.proofs.shelf.Lists.{getD-set-same, getD-set-other, length-set, ext-getD, getD-past, set-past}
-use Rattle.std.proofs.shelf.Tests.{cases-eq, cases-lt, both-ways, cond-both, cond-false, ltb-true, le-ltb}
+use Rattle.std.proofs.shelf.Tests.{cases-eq, cases-lt, cond-both, cond-false, ltb-true, le-ltb}
 use Rattle.cells.specs.declared.Cell.{Cell}
-use Rattle.cells.specs.Cells.{free-cell, at, nat, base-of, parent, entry, is-leaf}
+use Rattle.cells.specs.Cells.{free-cell, at, base-of, parent, entry}
 use Rattle.cells.specs.Placing.{moved-list, moves, reindexed, index-moves, relocated, index-relocated}
-use Rattle.cells.specs.Trees.{In, Apart, Edge, Reach, Tree, NotLeaf, Family, Room}
+use Rattle.cells.specs.Trees.{In, Apart, Tree, NotLeaf, Family, Room}
 use Rattle.cells.specs.Index.{Leads, Entered}
-use Rattle.cells.proofs.Changes.{Renames, Rebased, Shifts, Moved}
+use Rattle.cells.proofs.Changes.{Renames}
+use Rattle.cells.proofs.Basics.{not-leaf, leaf-same}
 use Rattle.cells.proofs.Paths.{reach-some}
-use Rattle.cells.proofs.Relocations.{goes, goes-there, goes-else, rename-none, Mid, one, next, mid-next, x-moves, begun, chain, Steps, moves-all}
+use Rattle.cells.proofs.Relocations.{goes, goes-there, goes-else, rename-none, Mid, one, next, mid-next, x-moves, begun, chain, moves-all}
 use Rattle.cells.proofs.Renamings.{own-root}
 
 -- the index is right: each leaf's number leads to it, and each entry but 0 is a leaf of its number
@@ -42,16 +43,10 @@ indexed-from cs is l e = record {
 pub leads-from : (cs : List Cell) (is : List ℕ) → Indexed cs is → Leads cs is
 leads-from cs is ix t h lt = ix .leads t (entry (at cs t .base)) (leaf-entry (at cs t .base) h) lt
 
-pub no-negative : (n : ℕ) → pos 0 ≡ negsuc n → ⊥
-no-negative n e = let z : _≡_ {A = ℕ} 0 1 = cc in omega arith
-
-negative-same : (k n : ℕ) → negsuc k ≡ negsuc n → k ≡ n
-negative-same k n e = cc
-
 -- a leaf is no free cell
 pub leaf-used : (cs : List Cell) → ((t : ℕ) → parent cs t ≡ 0 → at cs t ≡ free-cell) → (t n : ℕ) → at cs t .base ≡ negsuc n → 0 < parent cs t
 leaf-used cs blanks t n b =
-    ⊎-elim (λ z. absurd (no-negative n (ap (λ c. c .base) (sym (blanks t z)) ∙ b))) (λ nz. omega arith) (cases-eq (parent cs t) 0)
+    ⊎-elim (λ z. absurd (not-leaf 0 n (ap (λ c. c .base) (sym (blanks t z)) ∙ b))) (λ nz. omega arith) (cases-eq (parent cs t) 0)
 
 -- an entry of a list after it was set
 set-entry : (is : List ℕ) (k t n : ℕ) → ((n ≡ k) × (n < length is) × (getD (set is k t) n 0 ≡ t)) ⊎ (((n ≡ k) × (getD (set is k t) n 0 ≡ 0)) ⊎ ((n ≡ k → ⊥) × (getD (set is k t) n 0 ≡ getD is n 0)))
@@ -83,10 +78,7 @@ module _ (cs ds : List Cell) (x t : ℕ) (is : List ℕ) (hx : 0 < parent cs x) 
   entered-z : (z : ℤ) → at cs x .base ≡ z → Entered ds (reindexed is z t)
   entered-z (pos k) bx = subst (Entered ds) (sym (reindexed-inner is k t)) (λ n h.
       leaf-stays (getD is n 0) n
-      (λ e. no-neg k n (sym bx ∙ ap (λ y. at cs y .base) (sym e) ∙ ix .entered n h)) (ix .entered n h))
-    where
-      no-neg : (k n : ℕ) → pos k ≡ negsuc n → ⊥
-      no-neg k n e = let y : _≡_ {A = ℕ} 0 1 = cc in omega arith
+      (λ e. not-leaf k n (sym bx ∙ ap (λ y. at cs y .base) (sym e) ∙ ix .entered n h)) (ix .entered n h))
   entered-z (negsuc k) bx = λ n h.
       ⊎-elim {C = at ds (getD (set is k t) n 0) .base ≡ negsuc n}
       (λ same. ap (λ y. at ds y .base) (same .2) ∙ leaf-went n (bx ∙ ap negsuc (sym (same .0))))
@@ -95,7 +87,7 @@ module _ (cs ds : List Cell) (x t : ℕ) (is : List ℕ) (hx : 0 < parent cs x) 
       (λ other.
       let v : ℕ = getD is n 0 in
       let hv : 0 < v = omega (arith, other .1) in
-      let ne : v ≡ x → ⊥ = λ e. other .0 (sym (negative-same k n (sym bx ∙ ap (λ y. at cs y .base) (sym e) ∙ ix .entered n hv))) in
+      let ne : v ≡ x → ⊥ = λ e. other .0 (sym (leaf-same k n (sym bx ∙ ap (λ y. at cs y .base) (sym e) ∙ ix .entered n hv))) in
       ap (λ y. at ds y .base) (other .1) ∙ leaf-stays v n ne (ix .entered n hv)))
       (set-entry is k t n)
 
@@ -112,6 +104,7 @@ module _ (cs ds : List Cell) (x t : ℕ) (is : List ℕ) (hx : 0 < parent cs x) 
     where
       here : (z : ℤ) → at cs x .base ≡ z → at cs x .base ≡ negsuc n → n < length is → getD (reindexed is z t) n 0 ≡ t
       here z bx bn lt = subst (λ y. getD (reindexed is y t) n 0 ≡ t) (sym bn ∙ bx) (getD-set-same is n t 0 lt)
+
       there : (z : ℤ) → at cs x .base ≡ z → (u : ℕ) → (u ≡ x → ⊥) → at cs u .base ≡ negsuc n → n < length is → getD is n 0 ≡ u → getD (reindexed is z t) n 0 ≡ u
       there (pos k) bx u ne was lt known = ap (λ l. getD l n 0) (reindexed-inner is k t) ∙ known
       there (negsuc k) bx u ne was lt known =
@@ -157,7 +150,7 @@ module _ (cs : List Cell) (s : ℕ) (codes : List ℕ) (e : ℕ) (tree : Tree cs
       let mid = chain-index codes cs (λ u. u) is (rename-none cs tree) (begun cs s codes e tree used low-e fam room) (fam .apart) (λ c i. i) ix in
       record {
         leads = λ j n b lt.
-            let ne : j ≡ s → ⊥ = λ q. no-neg n (sym (ap (λ c. c .base) (m .reb .here)) ∙ ap (λ y. at es y .base) (sym q) ∙ b) in
+            let ne : j ≡ s → ⊥ = λ q. not-leaf e n (sym (ap (λ c. c .base) (m .reb .here)) ∙ ap (λ y. at es y .base) (sym q) ∙ b) in
             mid .leads j n (ap (λ c. c .base) (sym (rebased j ne)) ∙ b) lt;
         entered = λ n h.
             let v : ℕ = getD (index-relocated cs is s codes e) n 0 in
@@ -165,9 +158,6 @@ module _ (cs : List Cell) (s : ℕ) (codes : List ℕ) (e : ℕ) (tree : Tree cs
             let ne : v ≡ s → ⊥ = λ q. leafless n (sym base-same ∙ ap (λ y. at ds y .base) (sym q) ∙ b) in
             ap (λ c. c .base) (rebased v ne) ∙ b;
       }
-    where
-      no-neg : (n : ℕ) → pos e ≡ negsuc n → ⊥
-      no-neg n q = let y : _≡_ {A = ℕ} 0 1 = cc in omega arith
 
 pub length-index-moves : (b e : ℕ) (cs : List Cell) (is codes : List ℕ) → length (index-moves b e cs is codes) ≡ length is
 length-index-moves b e cs is [] = refl
@@ -200,7 +190,7 @@ module _ (cs : List Cell) (is : List ℕ) (t s : ℕ) (tree : Tree cs) (free : p
         leads = λ j n b lt.
             ⊎-elim
             (λ e. ⊎-elim
-            (λ fits. absurd (no-negative n (ap (λ c. c .base) (sym (getD-set-same cs t (record { base = pos 0; check = pos s }) free-cell fits)) ∙ ap (λ y. at es y .base) (sym e) ∙ b)))
+            (λ fits. absurd (not-leaf 0 n (ap (λ c. c .base) (sym (getD-set-same cs t (record { base = pos 0; check = pos s }) free-cell fits)) ∙ ap (λ y. at es y .base) (sym e) ∙ b)))
             (λ past. ix .leads j n (ap (λ l. at l j .base) (sym (set-past cs t (record { base = pos 0; check = pos s }) past)) ∙ b) lt)
             (cases-lt t (length cs)))
             (λ ne. ix .leads j n (ap (λ c. c .base) (sym (getD-set-other cs t j (record { base = pos 0; check = pos s }) free-cell ne)) ∙ b) lt)
@@ -220,7 +210,7 @@ module _ (cs : List Cell) (is : List ℕ) (t s : ℕ) (tree : Tree cs) (free : p
             let lt′ : n < length is = omega (arith, length-set is k t) in
             ⊎-elim
             (λ e.
-            let same : n ≡ k = negative-same n k (sym b ∙ ap (λ y. at es y .base) e ∙ here) in
+            let same : n ≡ k = leaf-same n k (sym b ∙ ap (λ y. at es y .base) e ∙ here) in
             ap (λ x. getD (set is k t) x 0) same ∙ getD-set-same is k t 0 (omega arith) ∙ sym e)
             (λ ne.
             let was : at cs j .base ≡ negsuc n = sym (else j ne) ∙ b in

@@ -1,3 +1,4 @@
+pub mod Basics
 pub mod Changes
 pub mod Paths
 pub mod Renamings
@@ -16,9 +17,12 @@ pub mod Families
 pub mod Sounds
 pub mod Grows
 pub mod Numbers
+pub mod Moves
 pub mod Enters
 pub mod Prunes
 pub mod TakesOut
 pub mod Undoes
 pub mod Tallies
 pub mod Starts
+pub mod Extends
+pub mod Examples

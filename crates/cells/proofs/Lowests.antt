@@ -1,12 +1,12 @@
 -- The lowest base is one number, and a search finds it.
-use mathlib.Core.Path.{_≡_, refl, ap, sym, subst, _∙_}
-use mathlib.Core.Bool.{Bool, true, false, cond, _&&_}
-use mathlib.Core.List.{List, [], _∷_}
-use mathlib.Core.Logic.{_⊎_, inl, inr, ⊎-elim}
+use mathlib.Core.Path.{_≡_, refl, ap, sym, subst}
+use mathlib.Core.Bool.{Bool, true, false}
+use mathlib.Core.List.{List}
+use mathlib.Core.Logic.{_⊎_, ⊎-elim}
 use Prim.Native.Nat.{ℕ, zero, suc, _+_, _<_, _≤_}
 use native.Mathlib.Nat.{add-suc, add-zero}
 use lib.IntN.{ℤ, pos, negsuc}
-use lib.Dec.{eqb, ltb}
+use lib.Dec.{eqb}
 use Rattle.std.specs.Orderings.{Decides}
 use Rattle.std.proofs.shelf.Ways.{decides-like, decides-eqb, decides-ltb, decides-and, decides-by-and, not-from-decides}
 use Rattle.std.proofs.shelf.Elements.{all-getD, all-from-getD}
@@ -18,6 +18,7 @@ use Rattle.std.proofs.shelf.Tests.{cases-order, cases-eq, cond-both, false≢tr
 use Rattle.cells.specs.declared.Cell.{Cell}
 use Rattle.cells.specs.Cells.{at, eqZ, is-free}
 use Rattle.cells.specs.Placing.{Free, AllFree, Lowest, all-free, first-from, lowest}
+use Rattle.cells.proofs.Basics.{not-leaf}
 
 pub lowest-unique : (cs : List Cell) (codes : List ℕ) (r s : Option ℕ) → Lowest cs codes r → Lowest cs codes s → r ≡ s
 lowest-unique cs codes None None p q = refl
@@ -31,8 +32,8 @@ lowest-unique cs codes (Some r) (Some s) p q =
 -- the tests decide what they stand for
 decides-eqZ : (a b : ℤ) → Decides (eqZ a b) (a ≡ b)
 decides-eqZ (pos a) (pos b) = decides-like (eqb a b) (ap pos) (λ e. cc) (decides-eqb a b)
-decides-eqZ (pos a) (negsuc b) = (λ e. absurd (false≢true e), λ e. let z : _≡_ {A = ℕ} 0 1 = cc in absurd (omega arith))
-decides-eqZ (negsuc a) (pos b) = (λ e. absurd (false≢true e), λ e. let z : _≡_ {A = ℕ} 0 1 = cc in absurd (omega arith))
+decides-eqZ (pos a) (negsuc b) = (λ e. absurd (false≢true e), λ e. absurd (not-leaf a b e))
+decides-eqZ (negsuc a) (pos b) = (λ e. absurd (false≢true e), λ e. absurd (not-leaf b a (sym e)))
 decides-eqZ (negsuc a) (negsuc b) = decides-like (eqb a b) (ap negsuc) (λ e. cc) (decides-eqb a b)
 
 pub decides-free : (cs : List Cell) (t : ℕ) → Decides (is-free cs t) (Free cs t)

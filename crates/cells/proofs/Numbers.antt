@@ -1,9 +1,8 @@
 -- The numbers of paths before and after a change of what is held.
-use mathlib.Core.Path.{_≡_, refl, ap, sym, subst, _∙_}
-use mathlib.Core.Bool.{Bool, true, false, cond, _&&_}
+use mathlib.Core.Path.{_≡_, refl, ap, sym, _∙_}
+use mathlib.Core.Bool.{true, false, cond, _&&_}
 use mathlib.Core.List.{List, [], _∷_}
-use mathlib.Core.Logic.{⊎-elim, _⊎_, inl, inr}
-use Prim.Native.Nat.{ℕ, zero, suc, _+_, _<_}
+use Prim.Native.Nat.{ℕ, zero, suc}
 use native.Mathlib.Omega.{arith}
 use lib.Dec.{eqb}
 use lib.ListN.{length}
@@ -16,7 +15,6 @@ use Rattle.cells.specs.declared.Cell.{Cell}
 use Rattle.cells.specs.Counting.{same-path}
 use Rattle.cells.specs.Walking.{number-at, turned}
 use Rattle.cells.specs.Trees.{Held}
-use Rattle.cells.proofs.Walks.{none-some}
 use Rattle.cells.proofs.Climbs.{number-held, held-number, number-positive}
 
 pub decides-same : (p q : List ℕ) → Decides (same-path p q) (p ≡ q)

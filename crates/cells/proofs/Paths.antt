@@ -1,12 +1,10 @@
 -- Paths and cells go together one to one.
 use mathlib.Core.Path.{_≡_, refl, ap, sym, subst, _∙_}
 use mathlib.Core.List.{List, [], _∷_}
-use Prim.Native.Nat.{ℕ, zero, suc, _+_, _<_, _≤_}
+use Prim.Native.Nat.{ℕ, _+_, _<_}
 use native.Mathlib.Omega.{arith}
-use lib.IntN.{ℤ, pos, negsuc}
-use lib.ListN.{length}
 use Rattle.cells.specs.declared.Cell.{Cell}
-use Rattle.cells.specs.Cells.{free-cell, at, nat, base-of, parent}
+use Rattle.cells.specs.Cells.{nat, base-of, parent}
 use Rattle.cells.specs.Trees.{Edge, Reach, Tree}
 
 pub edge-up : (cs : List Cell) (s a t : ℕ) → Edge cs s a t → parent cs t ≡ s
@@ -44,10 +42,3 @@ module _ (cs : List Cell) (tree : Tree cs) where
   pub reach-used : (p : List ℕ) (t : ℕ) → Reach cs p t → 0 < parent cs t
   reach-used [] t r = omega (arith, ap (parent cs) r, ap nat (tree .root))
   reach-used (a ∷ p) t r = omega (arith, reach-some cs p (r .0) (r .1), edge-up cs (r .0) a t (r .2))
-
-  pub zero-blank : at cs 0 ≡ free-cell
-  zero-blank = tree .blanks 0 (zero-free (parent cs 0) refl)
-    where
-      zero-free : (n : ℕ) → parent cs 0 ≡ n → parent cs 0 ≡ 0
-      zero-free zero e = e
-      zero-free (suc n) e = let r = tree .reach 0 (omega arith) in absurd (omega (arith, reach-some cs (r .0) 0 (r .1)))

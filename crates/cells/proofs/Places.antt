@@ -1,23 +1,22 @@
 -- A child that is given to a node, and a node that is freed.
 use mathlib.Core.Path.{_≡_, refl, ap, sym, subst, _∙_}
-use mathlib.Core.List.{List, [], _∷_}
+use mathlib.Core.List.{List, _∷_}
 use mathlib.Core.Logic.{⊎-elim, _⊎_, inl, inr}
-use Prim.Native.Nat.{ℕ, zero, suc, _+_, _<_, _≤_}
+use Prim.Native.Nat.{ℕ, _+_, _<_}
 use native.Mathlib.Omega.{arith}
 use lib.IntN.{ℤ, pos, negsuc}
 use lib.ListN.{length, set}
-use Rattle.std.proofs.shelf.Lists.{getD-set-same, getD-set-other, set-set, set-getD}
+use Rattle.std.proofs.shelf.Lists.{set-set, set-getD}
 use Rattle.std.proofs.shelf.Tests.{cases-eq}
 use Rattle.cells.specs.declared.Cell.{Cell}
 use Rattle.cells.specs.Cells.{free-cell, at, nat, base-of, parent}
-use Rattle.cells.specs.Trees.{Edge, Reach, Tree, In, Held, Ends, WholeBut, Whole, Family, Room, Lone, NotLeaf}
-use Rattle.cells.proofs.Changes.{Shifts, Moved, Grown, Shrunk, Placed, Freed}
+use Rattle.cells.specs.Trees.{Edge, Reach, Tree, In, Held, WholeBut, Family, Room, Lone, NotLeaf}
+use Rattle.cells.proofs.Changes.{Shifts, Grown, Shrunk, Placed, Freed}
 use Rattle.cells.specs.Placing.{relocated, placed}
-use Rattle.cells.proofs.Paths.{edge-up, reach-some, reach-same, root-apart, reach-unique, reach-used}
-use Rattle.cells.proofs.Counts.{within}
+use Rattle.cells.proofs.Paths.{edge-up, reach-some, reach-same, reach-unique, reach-used}
 use Rattle.cells.proofs.Relocations.{kind, Steps, moves-all}
-use Rattle.cells.proofs.Returns.{well, stays, used-at, base-at, edge-at, back-at, base-s, used-s, held-ahead, held-again, whole-at, returning}
-use Rattle.cells.proofs.Edits.{edge-kept, here, else, used-else, reach-else, growing, here-f, else-f, shrinking}
+use Rattle.cells.proofs.Returns.{well, stays, back-at, base-s, held-ahead, held-again, whole-at, returning}
+use Rattle.cells.proofs.Edits.{edge-kept, here, else, used-else, growing, here-f, else-f, shrinking}
 
 module _ (cs : List Cell) (s a : ℕ) (q : List ℕ) (z : ℤ) (tree : Tree cs) (way : Reach cs q s) (some : 0 < a) (code : a < 258) (inner : 0 < base-of cs s) (fits : base-of cs s + a < length cs) (free : parent cs (base-of cs s + a) ≡ 0) where
   abbrev t : ℕ

@@ -1,23 +1,23 @@
 -- One node moves after another, and so a family moves.
 use mathlib.Core.Path.{_≡_, refl, ap, sym, subst, _∙_}
-use mathlib.Core.Bool.{Bool, true, false, cond, _&&_}
-use mathlib.Core.List.{List, [], _∷_, map}
+use mathlib.Core.Bool.{true, false, cond}
+use mathlib.Core.List.{List, [], _∷_}
 use mathlib.Core.Logic.{⊎-elim, _⊎_, inl, inr}
-use Prim.Native.Nat.{ℕ, zero, suc, _+_, _<_, _≤_}
+use Prim.Native.Nat.{ℕ, _+_, _<_}
 use native.Mathlib.Omega.{arith}
-use lib.Dec.{ltb, eqb}
+use lib.Dec.{eqb}
 use lib.IntN.{ℤ, pos, negsuc}
 use lib.Signed.{ltZ}
-use lib.ListN.{length, getD, set}
+use lib.ListN.{length, set}
 use Rattle.std.proofs.shelf.Counted.{getD-map-counting, length-map-counting}
 use Rattle.std.proofs.shelf.Lists.{getD-past, getD-set-same, getD-set-other, length-set}
-use Rattle.std.proofs.shelf.Tests.{cases-eq, cases-lt, cases-bool, cond-true, cond-false, cond-both, and-from, and-right, eq-eqb, ne-eqb, eqb-true, lt-ltb, both-ways}
+use Rattle.std.proofs.shelf.Tests.{cases-eq, cases-lt, cond-true, cond-false, cond-both, and-from, and-right, eq-eqb, ne-eqb, lt-ltb}
 use Rattle.cells.specs.declared.Cell.{Cell}
 use Rattle.cells.specs.Cells.{free-cell, at, nat, base-of, parent, eqZ}
 use Rattle.cells.specs.Trees.{Edge, Reach, Tree, In, Apart, Family, Room}
 use Rattle.cells.proofs.Changes.{Renames, Rebased, Shifts, Moved}
 use Rattle.cells.specs.Placing.{under, repointed, moved, moved-list, moves, relocated}
-use Rattle.cells.proofs.Paths.{edge-up, reach-some, reach-same, root-apart, reach-unique, reach-used}
+use Rattle.cells.proofs.Paths.{edge-up, reach-some}
 use Rattle.cells.proofs.Counts.{within}
 use Rattle.cells.proofs.Renamings.{up-used, not-own, own-root, moving}
 
@@ -331,6 +331,3 @@ module _ (cs : List Cell) (s : ℕ) (codes : List ℕ) (e : ℕ) (tree : Tree cs
 
   pub moves-well : Moved cs (relocated cs s codes e) s e (moves-all .to)
   moves-well = let m = moves-all in moving cs (m .mid) (relocated cs s codes e) s e (m .to) tree used low-e (m .ren) (m .reb) (m .shifts)
-
-  pub relocating : (f : ℕ → ℕ) × Shifts cs s e f × Moved cs (relocated cs s codes e) s e f
-  relocating = (moves-all .to, moves-all .shifts, moves-well)

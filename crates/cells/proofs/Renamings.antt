@@ -1,23 +1,19 @@
 -- A family that moves: each path leads to the same cell as before, at its new place.
 use mathlib.Core.Path.{_≡_, refl, ap, sym, subst, _∙_}
 use mathlib.Core.List.{List, [], _∷_}
-use mathlib.Core.Logic.{⊎-elim, _⊎_, inl, inr}
-use Prim.Native.Nat.{ℕ, zero, suc, _+_, _<_, _≤_}
+use mathlib.Core.Logic.{⊎-elim, _⊎_}
+use Prim.Native.Nat.{ℕ, _+_, _<_}
 use native.Mathlib.Omega.{arith}
-use lib.IntN.{ℤ, pos, negsuc}
+use lib.IntN.{pos}
 use lib.ListN.{length}
 use Rattle.std.proofs.shelf.Tests.{cases-eq}
 use Rattle.cells.specs.declared.Cell.{Cell}
-use Rattle.cells.specs.Cells.{free-cell, at, nat, base-of, parent}
+use Rattle.cells.specs.Cells.{at, nat, base-of, parent}
 use Rattle.cells.specs.Trees.{Edge, Reach, Tree}
 use Rattle.cells.proofs.Changes.{Renames, Rebased, Shifts, Moved}
-use Rattle.cells.proofs.Paths.{edge-up, reach-some, reach-same, root-apart, reach-unique, reach-used}
+use Rattle.cells.proofs.Paths.{edge-up, reach-some, root-apart, reach-unique, reach-used}
 
--- a used cell's check is its parent, which is used
-pub up-is : (cs : List Cell) (tree : Tree cs) (p : List ℕ) (t : ℕ) → Reach cs p t → at cs t .check ≡ pos (parent cs t)
-up-is cs tree [] t r = rw r (tree .root ∙ ap (λ z. pos (nat z)) (sym (tree .root)))
-up-is cs tree (a ∷ p) t r = r .2 .check ∙ ap pos (sym (edge-up cs (r .0) a t (r .2)))
-
+-- the parent of a used cell is used
 pub up-used : (cs : List Cell) (tree : Tree cs) (p : List ℕ) (t : ℕ) → Reach cs p t → 0 < parent cs (parent cs t)
 up-used cs tree [] t r =
     let one : parent cs 1 ≡ 1 = ap nat (tree .root) in

@@ -1,22 +1,21 @@
 -- A family that moves keeps what is held, and one that moves back leaves every cell as it was.
-use mathlib.Core.Path.{_≡_, refl, ap, sym, subst, _∙_}
-use mathlib.Core.List.{List, [], _∷_}
+use mathlib.Core.Path.{_≡_, ap, sym, subst, _∙_}
+use mathlib.Core.List.{List, _∷_}
 use mathlib.Core.Logic.{⊎-elim, _⊎_, inl, inr}
-use Prim.Native.Nat.{ℕ, zero, suc, _+_, _<_, _≤_}
+use Prim.Native.Nat.{ℕ, _+_, _<_}
 use native.Mathlib.Omega.{arith}
-use lib.IntN.{ℤ, pos, negsuc}
-use lib.ListN.{length}
+use lib.IntN.{pos}
 use Rattle.std.proofs.shelf.Lists.{ext-getD}
 use Rattle.std.proofs.shelf.Tests.{cases-eq}
 use Rattle.cells.specs.declared.Cell.{Cell}
 use Rattle.cells.specs.Cells.{free-cell, at, nat, base-of, parent}
-use Rattle.cells.specs.Trees.{Edge, Reach, Tree, In, Held, Ends, WholeBut, Family, Room, NotLeaf}
-use Rattle.cells.proofs.Changes.{Renames, Rebased, Shifts, Moved}
+use Rattle.cells.specs.Trees.{Edge, Reach, Tree, Held, Ends, WholeBut, Family, Room, NotLeaf}
+use Rattle.cells.proofs.Changes.{Moved}
 use Rattle.cells.specs.Placing.{relocated}
-use Rattle.cells.proofs.Paths.{edge-up, reach-some, reach-same, root-apart, reach-unique, reach-used}
+use Rattle.cells.proofs.Paths.{edge-up, reach-some, reach-same, root-apart, reach-used}
 use Rattle.cells.proofs.Counts.{within}
-use Rattle.cells.proofs.Renamings.{up-used, not-own, own-root, moving, same-check, s-stays, not-s, check-there, base-there, edge-there, back}
-use Rattle.cells.proofs.Relocations.{nat-is, kind, Steps, moves-all, moves-well}
+use Rattle.cells.proofs.Renamings.{up-used, moving, s-stays, not-s, check-there, base-there, edge-there, back}
+use Rattle.cells.proofs.Relocations.{nat-is, kind, Steps, moves-all}
 
 cell-same : (c d : Cell) → c .base ≡ d .base → c .check ≡ d .check → c ≡ d
 cell-same c d p q = λ i. record { base = p i; check = q i }

@@ -1,28 +1,28 @@
 -- The invariant says that the cells are a tree, whole and rightly indexed.
 use mathlib.Core.Path.{_≡_, refl, ap, sym, subst, _∙_}
-use mathlib.Core.Bool.{Bool, true, false, cond, _||_}
-use mathlib.Core.List.{List, [], _∷_}
+use mathlib.Core.Bool.{true, false}
+use mathlib.Core.List.{List, []}
 use mathlib.Core.Logic.{⊎-elim, _⊎_, inl, inr}
-use Prim.Native.Nat.{ℕ, zero, suc, _+_, _<_, _≤_}
+use Prim.Native.Nat.{ℕ, _+_, _<_}
 use native.Mathlib.Omega.{arith}
-use lib.Dec.{ltb, eqb}
 use lib.IntN.{ℤ, pos, negsuc}
 use lib.Signed.{ltZ}
-use lib.ListN.{length, getD}
+use lib.ListN.{length}
 use Rattle.std.specs.declared.option.Option.{Option}
 use Rattle.std.specs.declared.option.Option.the-variants.{Some, None}
 use Rattle.std.proofs.shelf.Lists.{getD-past}
 use Rattle.std.proofs.shelf.Tests.{both-ways, cases-bool, eqb-true, eq-eqb, ltb-true, or-cases, or-left, or-right, cases-eq, cond-false, and-left}
 use Rattle.cells.specs.declared.Cell.{Cell}
 use Rattle.cells.specs.Cells.{free-cell, at, nat, base-of, parent, is-leaf, edge, child, child-codes, some-code}
-use Rattle.cells.specs.Walking.{walk, cell-at, is-found, number-at, turned, path-to}
-use Rattle.cells.specs.Trees.{Edge, Reach, Tree, Held, Ends, Whole, NotLeaf, Lone}
+use Rattle.cells.specs.Walking.{cell-at, is-found, turned, path-to}
+use Rattle.cells.specs.Trees.{Reach, Tree, Ends, Whole, NotLeaf}
 use Rattle.cells.specs.Invariant.{Sound}
-use Rattle.cells.proofs.Paths.{edge-up, reach-some, reach-used, root-apart}
-use Rattle.cells.proofs.Walks.{listing, none-some}
+use Rattle.cells.proofs.Basics.{not-leaf, none-code}
+use Rattle.cells.proofs.Paths.{reach-some}
+use Rattle.cells.proofs.Walks.{listing}
 use Rattle.cells.proofs.Climbs.{turned-back, cell-reach, reach-cell, path-is}
 use Rattle.cells.proofs.Leaves.{Indexed, indexed-from, leads-from}
-use Rattle.cells.proofs.Families.{first-of, inner-of, some-of, none-of, lone-codes, none-code}
+use Rattle.cells.proofs.Families.{first-of, inner-of, some-of}
 
 -- the invariant over the tree, of two cells or more
 pub record Tidy (cs : List Cell) (is : List ℕ) : Type 0 where
@@ -40,7 +40,7 @@ leaf-is (pos n) e = absurd (omega (arith, ltb-true n 0 e))
 leaf-is (negsuc n) e = (n, refl)
 
 pub inner-is : (z : ℤ) → ltZ z (pos 0) ≡ false → (n : ℕ) → z ≡ negsuc n → ⊥
-inner-is (pos k) e n q = let y : _≡_ {A = ℕ} 0 1 = cc in omega arith
+inner-is (pos k) e n q = not-leaf k n q
 inner-is (negsuc k) e n q = both-ways true e refl
 
 module _ (cs : List Cell) (is : List ℕ) (h : Sound cs is) where

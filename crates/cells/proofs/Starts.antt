@@ -1,29 +1,28 @@
 -- A new array is sound and holds nothing; the index and climbing in a sound one.
-use mathlib.Core.Path.{_≡_, refl, ap, sym, subst, _∙_}
-use mathlib.Core.Bool.{Bool, true, false, cond}
-use mathlib.Core.List.{List, [], _∷_}
+use mathlib.Core.Path.{_≡_, ap, sym, subst, _∙_}
+use mathlib.Core.List.{List, []}
 use mathlib.Core.Logic.{⊎-elim, _⊎_, inl, inr}
-use Prim.Native.Nat.{ℕ, zero, suc, _+_, _<_, _≤_}
+use Prim.Native.Nat.{ℕ, _<_}
 use native.Mathlib.Omega.{arith}
 use lib.Dec.{eqb}
-use lib.IntN.{ℤ, pos, negsuc}
+use lib.IntN.{negsuc}
 use lib.ListN.{length, getD}
-use Rattle.std.specs.declared.option.Option.{Option}
-use Rattle.std.specs.declared.option.Option.the-variants.{Some, None}
+use Rattle.std.specs.declared.option.Option.the-variants.{Some}
 use Rattle.std.proofs.shelf.Lists.{getD-past}
-use Rattle.std.proofs.shelf.Tests.{cases-eq, cases-lt, cond-false, ne-eqb, eq-eqb}
+use Rattle.std.proofs.shelf.Tests.{cases-eq, cases-lt, cond-false, ne-eqb}
 use Rattle.cells.specs.declared.Cell.{Cell}
-use Rattle.cells.specs.Cells.{free-cell, root-cell, at, nat, base-of, parent}
+use Rattle.cells.specs.Cells.{free-cell, root-cell, at, nat, parent}
 use Rattle.cells.specs.Walking.{cell-at, number-at, turned, path-to}
-use Rattle.cells.specs.Trees.{Reach, Tree, Held}
+use Rattle.cells.specs.Trees.{Reach}
 use Rattle.cells.specs.Invariant.{Sound}
 use Rattle.cells.specs.Laws.{cleared, Starts, Climbs, Indexes}
-use Rattle.cells.proofs.Paths.{reach-some, reach-used}
+use Rattle.cells.proofs.Basics.{not-leaf}
+use Rattle.cells.proofs.Paths.{reach-some}
 use Rattle.cells.proofs.Counts.{within, depth}
 use Rattle.cells.proofs.Climbs.{turned-back, cell-reach, number-held, held-number, path-is}
-use Rattle.cells.proofs.Leaves.{Indexed, leads-from, leaf-used, no-negative}
+use Rattle.cells.proofs.Leaves.{Indexed, leads-from, leaf-used}
 use Rattle.cells.proofs.Numbers.{number-none}
-use Rattle.cells.proofs.Sounds.{Tidy, tidy-of, sound-of}
+use Rattle.cells.proofs.Sounds.{Tidy, tidy-of, sound-of, reach-of}
 use Rattle.cells.proofs.TakesOut.{length-turned}
 
 -- a new array
@@ -40,10 +39,7 @@ module _ (cs : List Cell) (is : List ℕ) (all : (j : ℕ) → j < length cs →
 
   no-leaf : (j n : ℕ) → at cs j .base ≡ negsuc n → ⊥
   no-leaf j n b =
-      ⊎-elim (λ e. one n (ap (λ c. c .base) (sym e) ∙ b)) (λ e. no-negative n (ap (λ c. c .base) (sym e) ∙ b)) (root-or-free j)
-    where
-      one : (n : ℕ) → pos 1 ≡ negsuc n → ⊥
-      one n e = let y : _≡_ {A = ℕ} 0 1 = cc in omega arith
+      ⊎-elim (λ e. not-leaf 1 n (ap (λ c. c .base) (sym e) ∙ b)) (λ e. not-leaf 0 n (ap (λ c. c .base) (sym e) ∙ b)) (root-or-free j)
 
   one : (j : ℕ) → 0 < parent cs j → j ≡ 1
   one j h = ⊎-elim (λ e. e) (λ ne. absurd (omega (arith, ap (λ c. nat (c .check)) (other j ne)))) (cases-eq j 1)
@@ -82,6 +78,11 @@ module _ (cs : List Cell) (is : List ℕ) (all : (j : ℕ) → j < length cs →
     sound = ⊎-elim (λ few. short few) (λ long. sound-of cs is (bare (omega arith))) (cases-lt (length cs) 2);
     none = λ p. number-none cs p (λ n h. no-leaf (h .0) n (h .2));
   }
+
+-- cell 0
+pub unused : (cs : List Cell) (is : List ℕ) → Sound cs is → at cs 0 ≡ free-cell
+unused cs is h =
+    ⊎-elim (h .blank 0) (λ nz. let w = reach-of cs is h 0 (omega arith) in absurd (omega (arith, reach-some cs (w .0) 0 (w .1)))) (cases-eq (parent cs 0) 0)
 
 -- climbing
 pub climbing : (cs : List Cell) (is p : List ℕ) (t : ℕ) → 1 < length cs → Sound cs is → cell-at cs p ≡ Some t → Climbs cs p t

@@ -1,9 +1,9 @@
 -- A path is taken out: it is no longer held, and each other path is as before.
 use mathlib.Core.Path.{_≡_, refl, ap, sym, subst, _∙_}
-use mathlib.Core.Bool.{Bool, true, false, cond}
+use mathlib.Core.Bool.{Bool, true, false}
 use mathlib.Core.List.{List, [], _∷_}
 use mathlib.Core.Logic.{⊎-elim, _⊎_, inl, inr}
-use Prim.Native.Nat.{ℕ, zero, suc, _+_, _<_, _≤_}
+use Prim.Native.Nat.{ℕ, _+_, _<_}
 use native.Mathlib.Omega.{arith}
 use lib.IntN.{ℤ, pos, negsuc}
 use lib.ListN.{length, getD, set}
@@ -13,32 +13,29 @@ use Rattle.std.specs.declared.option.Option.the-variants.{Some, None}
 use Rattle.std.proofs.shelf.Lists.{getD-set-same, getD-set-other, getD-past, length-set}
 use Rattle.std.proofs.shelf.Tests.{cond-both, cases-eq, cases-lt}
 use Rattle.cells.specs.declared.Cell.{Cell}
-use Rattle.cells.specs.Cells.{free-cell, root-cell, at, nat, base-of, parent, number, child-codes, some-code}
+use Rattle.cells.specs.Cells.{free-cell, root-cell, at, nat, parent, number, child-codes, some-code}
 use Rattle.cells.specs.Placing.{Arrays}
-use Rattle.cells.specs.Walking.{onward, cell-at, number-at, turned}
-use Rattle.cells.specs.Pruning.{prune, root-reset, taken-out, taken-at, take-out}
-use Rattle.cells.specs.Trees.{Edge, Reach, Tree, Held, Lone, Ends, Whole}
+use Rattle.cells.specs.Walking.{onward, cell-at, turned}
+use Rattle.cells.specs.Pruning.{prune, root-reset, taken-out, taken-at}
+use Rattle.cells.specs.Trees.{Reach, Tree, Held, Lone, Whole}
 use Rattle.cells.specs.Invariant.{Sound}
 use Rattle.cells.specs.Laws.{TakesOut, TakingOut}
 use Rattle.cells.proofs.Changes.{Same}
-use Rattle.cells.proofs.Paths.{reach-some, reach-used, reach-unique, reach-same}
+use Rattle.cells.proofs.Basics.{no-some, some-same, not-leaf, leaf-same, no-codes, none-code}
+use Rattle.cells.proofs.Paths.{reach-some, reach-same}
 use Rattle.cells.proofs.Counts.{within}
 use Rattle.cells.proofs.Walks.{listing}
-use Rattle.cells.proofs.Climbs.{turned-turned, turned-same, cell-reach}
+use Rattle.cells.proofs.Climbs.{turned-same, cell-reach}
 use Rattle.cells.proofs.Edits.{edge-kept, basing}
-use Rattle.cells.proofs.Families.{inner-of, none-of, none-code}
-use Rattle.cells.proofs.Leaves.{Indexed, leaf-used, no-negative}
+use Rattle.cells.proofs.Families.{inner-of, none-of}
+use Rattle.cells.proofs.Leaves.{Indexed, leaf-used}
 use Rattle.cells.proofs.Sounds.{Tidy, tidy-of, sound-of}
-use Rattle.cells.proofs.Grows.{no-some, some-same}
 use Rattle.cells.proofs.Prunes.{Pruned, pruning, prune-stays, prune-frees, length-prune}
 use Rattle.cells.proofs.Numbers.{number-none, numbers-but}
 
 pub length-turned : (p q : List ℕ) → length (turned p q) ≡ length p + length q
 length-turned [] q = omega arith
 length-turned (a ∷ p) q = omega (arith, length-turned p (a ∷ q))
-
-positive-leaf : (k m : ℕ) → pos k ≡ negsuc m → ⊥
-positive-leaf k m e = let y : _≡_ {A = ℕ} 0 1 = cc in omega arith
 
 -- the root is no leaf
 pub root-inner : (cs : List Cell) (is : List ℕ) → Tidy cs is → (m : ℕ) → at cs 1 .base ≡ negsuc m → ⊥
@@ -47,7 +44,7 @@ root-inner cs is h m b =
   where
     cases : (t : Bool) → some-code (child-codes cs 1) ≡ t → ⊥
     cases true e = omega (arith, inner-of cs 1 (child-codes cs 1) (listing cs 1 (omega arith)) e, ap nat b)
-    cases false e = positive-leaf 1 m (sym (h .bare (none-code (child-codes cs 1) e)) ∙ b)
+    cases false e = not-leaf 1 m (sym (h .bare (none-code (child-codes cs 1) e)) ∙ b)
 
 -- the same paths are held
 record Reset (ys : List Cell) (is : List ℕ) (zs : List Cell) : Type 0 where
@@ -60,14 +57,11 @@ record Reset (ys : List Cell) (is : List ℕ) (zs : List Cell) : Type 0 where
 module _ (ys : List Cell) (is : List ℕ) (tree : Tree ys) (whole : Whole ys) (leafless : (m : ℕ) → at ys 1 .base ≡ negsuc m → ⊥) (ix : Indexed ys is) where
   kept : some-code (child-codes ys 1) ≡ true → Reset ys is ys
   kept some = record {
-    tidy = record { tree = tree; whole = whole; bare = λ e. absurd (apart (child-codes ys 1) some e); indexed = ix };
+    tidy = record { tree = tree; whole = whole; bare = λ e. absurd (no-codes (child-codes ys 1) e some); indexed = ix };
     held = λ q m h. h;
     held-again = λ q m h. h;
     long = refl;
   }
-    where
-      apart : (l : List ℕ) → some-code l ≡ true → l ≡ [] → ⊥
-      apart l t e = let y : _≡_ {A = Bool} false true = ap some-code (sym e) ∙ t in let z : _≡_ {A = ℕ} 0 1 = cc in omega arith
 
   abbrev zs : List Cell
   zs = set ys 1 root-cell
@@ -97,7 +91,7 @@ module _ (ys : List Cell) (is : List ℕ) (tree : Tree ys) (whole : Whole ys) (l
   leaf-else u m b e = leafless m (ap (λ x. at ys x .base) (sym e) ∙ b)
 
   leaf-else′ : (u m : ℕ) → at zs u .base ≡ negsuc m → u ≡ 1 → ⊥
-  leaf-else′ u m b e = positive-leaf 1 m (ap (λ c. c .base) (sym here) ∙ ap (λ x. at zs x .base) (sym e) ∙ b)
+  leaf-else′ u m b e = not-leaf 1 m (ap (λ c. c .base) (sym here) ∙ ap (λ x. at zs x .base) (sym e) ∙ b)
 
   reset : some-code (child-codes ys 1) ≡ false → Reset ys is zs
   reset none =
@@ -143,10 +137,10 @@ module _ (cs : List Cell) (is : List ℕ) (a : ℕ) (p : List ℕ) (t k : ℕ) (
   -- a leaf that is left was there before
   leaf-was : (j n : ℕ) → at ys j .base ≡ negsuc n → at cs j .base ≡ negsuc n
   leaf-was j n b =
-      ⊎-elim (λ e. ap (λ c. c .base) (sym e) ∙ b) (λ e. absurd (no-negative n (ap (λ c. c .base) (sym e) ∙ b))) (prune-stays (length (a ∷ p)) cs t j)
+      ⊎-elim (λ e. ap (λ c. c .base) (sym e) ∙ b) (λ e. absurd (not-leaf 0 n (ap (λ c. c .base) (sym e) ∙ b))) (prune-stays (length (a ∷ p)) cs t j)
 
   not-t : (j n : ℕ) → at ys j .base ≡ negsuc n → j ≡ t → ⊥
-  not-t j n b e = no-negative n (ap (λ c. c .base) (sym (prune-frees (length p) cs t)) ∙ ap (λ x. at ys x .base) (sym e) ∙ b)
+  not-t j n b e = not-leaf 0 n (ap (λ c. c .base) (sym (prune-frees (length p) cs t)) ∙ ap (λ x. at ys x .base) (sym e) ∙ b)
 
   index-out : Indexed ys (set is k 0)
   index-out = record {
@@ -170,8 +164,6 @@ module _ (cs : List Cell) (is : List ℕ) (a : ℕ) (p : List ℕ) (t k : ℕ) (
         ap (λ x. at ys x .base) (same ∙ there) ∙ on .2;
   }
     where
-      leaf-same : (n m : ℕ) → negsuc n ≡ negsuc m → n ≡ m
-      leaf-same n m e = cc
       gone : (n : ℕ) → n ≡ k → 0 < getD (set is k 0) n 0 → ⊥
       gone n e some =
           ⊎-elim

@@ -1,29 +1,29 @@
 -- The cells in use are one more than the different beginnings of the held paths.
 use mathlib.Core.Path.{_≡_, refl, ap, sym, subst, _∙_}
-use mathlib.Core.Bool.{Bool, true, false, cond, _&&_, _||_}
-use mathlib.Core.List.{List, [], _∷_, _++_, map, append-nil, append-assoc}
+use mathlib.Core.Bool.{true, false}
+use mathlib.Core.List.{List, [], _∷_, _++_, map, append-assoc}
 use mathlib.Core.Logic.{⊎-elim, _⊎_, inl, inr}
-use Prim.Native.Nat.{ℕ, zero, suc, _+_, _<_, _≤_}
+use Prim.Native.Nat.{ℕ, zero, suc, _+_, _<_}
 use native.Mathlib.Omega.{arith}
 use lib.ListN.{length}
 use Rattle.std.specs.Options.{isSome}
 use Rattle.std.specs.Orderings.{Decides}
-use Rattle.std.specs.declared.option.Option.{Option}
-use Rattle.std.specs.declared.option.Option.the-variants.{Some, None}
-use Rattle.std.proofs.shelf.Lists.{length-append, length-map}
+use Rattle.std.specs.declared.option.Option.the-variants.{Some}
+use Rattle.std.proofs.shelf.Lists.{length-map}
 use Rattle.std.proofs.shelf.Ways.{decides-or, not-from-decides}
-use Rattle.std.proofs.shelf.Tests.{both-ways, cond-both, false≢true}
+use Rattle.std.proofs.shelf.Tests.{cond-both, false≢true}
 use Rattle.cells.specs.declared.Cell.{Cell}
 use Rattle.cells.specs.Walking.{number-at, turned}
 use Rattle.cells.specs.Trees.{In, Apart, Held}
-use Rattle.cells.specs.Counting.{in-use, same-path, has, add, add-beginnings, beginnings}
+use Rattle.cells.specs.Counting.{in-use, has, add, add-beginnings, beginnings}
 use Rattle.cells.specs.Invariant.{Sound}
 use Rattle.cells.specs.Laws.{Holds}
-use Rattle.cells.proofs.Begins.{Begins, Beginnings}
+use Rattle.cells.proofs.Basics.{some-is}
+use Rattle.cells.proofs.Begins.{Beginnings}
 use Rattle.cells.proofs.Counts.{counts}
-use Rattle.cells.proofs.Climbs.{turned-back, turned-same, turned-turned, number-held, held-number, number-positive}
+use Rattle.cells.proofs.Climbs.{turned-back, number-held, held-number, number-positive}
 use Rattle.cells.proofs.Numbers.{decides-same}
-use Rattle.cells.proofs.Sounds.{Tidy, tidy-of}
+use Rattle.cells.proofs.Sounds.{tidy-of}
 
 decides-has : (bs : List (List ℕ)) (p : List ℕ) → Decides (has bs p) (In bs p)
 decides-has [] p = (λ e. absurd (false≢true e), λ i. absurd i)
@@ -119,10 +119,6 @@ turned-append (a ∷ x) y q = turned-append x y (a ∷ q)
 
 round-append : (x y : List ℕ) → round (x ++ y) ≡ round y ++ round x
 round-append x y = turned-append x y [] ∙ turned-rest y [] (round x)
-
-some-is : (o : Option ℕ) → isSome o ≡ true → (u : ℕ) × (o ≡ Some u)
-some-is (Some u) e = (u, refl)
-some-is None e = absurd (both-ways false refl e)
 
 module _ (cs : List Cell) (ks : List (List ℕ)) (h : Holds cs ks) where
   held-by : (p : List ℕ) → In ks p → (n : ℕ) × Held cs (round p) n

@@ -1,9 +1,9 @@
 -- At most one family moves while a path grows, and what grew is undone exactly.
 use mathlib.Core.Path.{_≡_, refl, ap, sym, subst, _∙_}
-use mathlib.Core.Bool.{Bool, true, false, cond}
+use mathlib.Core.Bool.{true}
 use mathlib.Core.List.{List, [], _∷_}
 use mathlib.Core.Logic.{⊎-elim, _⊎_, inl, inr}
-use Prim.Native.Nat.{ℕ, zero, suc, _+_, _<_, _≤_}
+use Prim.Native.Nat.{ℕ, suc, _+_, _<_}
 use native.Mathlib.Omega.{arith}
 use lib.Dec.{eqb}
 use lib.IntN.{ℤ, pos, negsuc}
@@ -11,19 +11,18 @@ use lib.ListN.{length, getD, set}
 use Rattle.std.specs.Options.{isSome}
 use Rattle.std.specs.declared.option.Option.{Option}
 use Rattle.std.specs.declared.option.Option.the-variants.{Some, None}
-use Rattle.std.proofs.shelf.Lists.{getD-set-same, getD-set-other, set-set, set-getD, length-set}
-use Rattle.std.proofs.shelf.Tests.{both-ways, cond-true, cond-false, eq-eqb, ne-eqb, cases-eq}
+use Rattle.std.proofs.shelf.Lists.{getD-set-same, getD-set-other, set-set, set-getD}
+use Rattle.std.proofs.shelf.Tests.{cond-true, cond-false, eq-eqb, ne-eqb, cases-eq}
 use Rattle.cells.specs.declared.Cell.{Cell}
-use Rattle.cells.specs.Cells.{free-cell, at, nat, base-of, parent, child, codes-below, child-codes, some-code}
-use Rattle.cells.specs.Placing.{relocated, index-relocated, placed, Arrays, Spot, place, grow, freed-up, moved-back, undo}
-use Rattle.cells.specs.Walking.{turned}
+use Rattle.cells.specs.Cells.{free-cell, at, nat, base-of, parent, child, child-codes}
+use Rattle.cells.specs.Placing.{relocated, index-relocated, placed, Spot, place, grow, freed-up, moved-back, undo}
 use Rattle.cells.specs.Trees.{In, Edge, Reach, Tree, Lone, NotLeaf, Family, Room}
 use Rattle.cells.specs.Invariant.{Sound}
 use Rattle.cells.specs.Laws.{Open, Stays}
-use Rattle.cells.proofs.Changes.{Placed, Moved}
+use Rattle.cells.proofs.Basics.{no-some, not-leaf}
 use Rattle.cells.proofs.Paths.{edge-up, reach-some, reach-used}
 use Rattle.cells.proofs.Counts.{within}
-use Rattle.cells.proofs.Walks.{Codes, none-some, child-edge, edge-child, listing}
+use Rattle.cells.proofs.Walks.{Codes, child-edge, edge-child, listing}
 use Rattle.cells.proofs.Climbs.{codes-from}
 use Rattle.cells.proofs.Relocations.{nat-is, Steps, moves-all, moves-well}
 use Rattle.cells.proofs.Returns.{base-s, used-s, edge-s, family-after, room-after, returning}
@@ -31,7 +30,7 @@ use Rattle.cells.proofs.Places.{free-m, long-m}
 use Rattle.cells.proofs.Leaves.{Indexed, index-moved, index-unique, length-index-moves}
 use Rattle.cells.proofs.Families.{first-of, lone-codes, codes-same}
 use Rattle.cells.proofs.Sounds.{Tidy, tidy-of, reach-of, inner-is, inner-base}
-use Rattle.cells.proofs.Grows.{then-some, Here, There, place-ways, place-well, place-lone, no-leaf}
+use Rattle.cells.proofs.Grows.{then-some, Here, There, place-ways, place-well, place-lone, place-none}
 
 -- a node without children gets one: only its BASE changes besides
 pub record Lent (cs : List Cell) (is : List ℕ) (s a : ℕ) (z : ℤ) (r : Spot) (e : ℕ) : Type 0 where
@@ -42,12 +41,14 @@ pub record Lent (cs : List Cell) (is : List ℕ) (s a : ℕ) (z : ℤ) (r : Spot
 pub lone-place : (cs : List Cell) (is : List ℕ) (s a : ℕ) (z : ℤ) (r : Spot) → 0 < s → Lone cs s → There cs is s a z r → (e : ℕ) × Lent cs is s a z r e
 lone-place cs is s a z r some lone h =
     let codes : child-codes cs s ≡ [] = lone-codes cs s (child-codes cs s) (listing cs s some) lone in
-    let e : ℕ = h .0 in
-    (e, record {
-      fits = h .2 a (inl refl) .0;
-      free = h .2 a (inl refl) .1;
-      after = subst (λ l. _≡_ {A = Spot} (record { cells = placed cs s l e a z; index = index-relocated cs is s l e; spot = e + a }) r) codes (h .3);
-    })
+    let e : ℕ = h .0 in (
+      e,
+      record {
+        fits = h .2 a (inl refl) .0;
+        free = h .2 a (inl refl) .1;
+        after = subst (λ l. _≡_ {A = Spot} (record { cells = placed cs s l e a z; index = index-relocated cs is s l e; spot = e + a }) r) codes (h .3);
+      },
+    )
 
 no-here : (cs : List Cell) (is : List ℕ) (s a : ℕ) (z : ℤ) (r : Spot) → 0 < s → Lone cs s → Here cs is s a z r → ⊥
 no-here cs is s a z r some lone h = let k = first-of cs s (child-codes cs s) (listing cs s some) (h .0) in lone (k .0) (k .1) (k .2)
@@ -61,10 +62,12 @@ place-stays : (cs : List Cell) (is : List ℕ) (s a : ℕ) (z : ℤ) (r : Spot) 
 place-stays cs is s a z r some lone e =
     let k = lone-lent cs is s a z r some lone e in
     let d : ℕ = k .0 in
-    subst (λ x. (x .index ≡ is) × ((j : ℕ) → 0 < parent cs j → (j ≡ s → ⊥) → at (x .cells) j ≡ at cs j)) (k .1 .after)
-    (refl, λ j used ns.
-        getD-set-other (set cs s (record { base = pos d; check = at cs s .check })) (d + a) j (record { base = z; check = pos s }) free-cell (λ y. omega (arith, k .1 .free, ap (parent cs) y))
-        ∙ getD-set-other cs s j (record { base = pos d; check = at cs s .check }) free-cell ns)
+    subst (λ x. (x .index ≡ is) × ((j : ℕ) → 0 < parent cs j → (j ≡ s → ⊥) → at (x .cells) j ≡ at cs j)) (k .1 .after) (
+      refl,
+      λ j used ns.
+          getD-set-other (set cs s (record { base = pos d; check = at cs s .check })) (d + a) j (record { base = z; check = pos s }) free-cell (λ y. omega (arith, k .1 .free, ap (parent cs) y))
+          ∙ getD-set-other cs s j (record { base = pos d; check = at cs s .check }) free-cell ns,
+    )
 
 -- and so does what grows from it
 pub grow-stays : (cs : List Cell) (is : List ℕ) (s a : ℕ) (q more : List ℕ) (z : ℤ) (r : Spot) → Tree cs → Reach cs q s → NotLeaf cs s → Codes (a ∷ more) → Lone cs s → grow more cs is s a z ≡ Some r
@@ -77,12 +80,14 @@ grow-stays cs is s a q (b ∷ more) z r tree way leafless cds lone e =
     let w = place-well cs is s a q (pos 0) tree way (cds .0 .0) (cds .0 .1) leafless fresh f (k .1) .1 in
     let one = place-stays cs is s a (pos 0) f (reach-some cs q s way) lone (k .1) in
     let d = lone-lent cs is s a (pos 0) f (reach-some cs q s way) lone (k .1) in
-    let rest = grow-stays (f .cells) (f .index) (f .spot) b (a ∷ q) more z r (w .tree) (w .new) (λ m y. no-leaf m (sym (w .base) ∙ y)) (cds .1)
-    (place-lone cs is s a q (pos 0) tree way (cds .0 .0) (cds .0 .1) leafless fresh f (k .1)) (k .2) in
-    (rest .0 ∙ one .0, λ j used ns.
-        let same = one .1 j used ns in
-        let nf : j ≡ f .spot → ⊥ = λ y. omega (arith, used, d .1 .free, ap (parent cs) (y ∙ sym (ap (λ x. x .spot) (d .1 .after)))) in
-        rest .1 j (omega (arith, ap (λ c. nat (c .check)) same)) nf ∙ same)
+    let rest = grow-stays (f .cells) (f .index) (f .spot) b (a ∷ q) more z r (w .tree) (w .new) (λ m y. not-leaf 0 m (sym (w .base) ∙ y)) (cds .1)
+    (place-lone cs is s a q (pos 0) tree way (cds .0 .0) (cds .0 .1) leafless fresh f (k .1)) (k .2) in (
+      rest .0 ∙ one .0,
+      λ j used ns.
+          let same = one .1 j used ns in
+          let nf : j ≡ f .spot → ⊥ = λ y. omega (arith, used, d .1 .free, ap (parent cs) (y ∙ sym (ap (λ x. x .spot) (d .1 .after)))) in
+          rest .1 j (omega (arith, ap (λ c. nat (c .check)) same)) nf ∙ same,
+    )
 
 -- the cells before the new one was written
 abbrev pub mid-of : (cs : List Cell) (is : List ℕ) (s a : ℕ) (z : ℤ) (r : Spot) → Here cs is s a z r ⊎ There cs is s a z r → List Cell
@@ -121,11 +126,11 @@ module _ (cs : List Cell) (is : List ℕ) (s a : ℕ) (q : List ℕ) (z : ℤ) (
       (omega (arith, long-m cs s a q (child-codes cs s) e z tree way fam new-code (h .1) (h .2), h .2 a (inl refl) .0)))
 
 -- m and the number of the codes
-abbrev steps : List ℕ → ℕ → ℕ
+abbrev pub steps : List ℕ → ℕ → ℕ
 steps [] m = suc m
 steps (b ∷ more) m = steps more (suc m)
 
-steps-is : (more : List ℕ) (m : ℕ) → steps more m ≡ suc (length more + m)
+pub steps-is : (more : List ℕ) (m : ℕ) → steps more m ≡ suc (length more + m)
 steps-is [] m = omega arith
 steps-is (b ∷ more) m = omega (arith, steps-is more (suc m))
 
@@ -158,7 +163,7 @@ grow-freed cs is s a q (b ∷ more) z r tree way leafless cds fresh e =
     let f : Spot = k .0 in
     let w = place-well cs is s a q (pos 0) tree way (cds .0 .0) (cds .0 .1) leafless fresh f (k .1) .1 in
     let lone : Lone (f .cells) (f .spot) = place-lone cs is s a q (pos 0) tree way (cds .0 .0) (cds .0 .1) leafless fresh f (k .1) in
-    let open-f : NotLeaf (f .cells) (f .spot) = λ m y. no-leaf m (sym (w .base) ∙ y) in
+    let open-f : NotLeaf (f .cells) (f .spot) = λ m y. not-leaf 0 m (sym (w .base) ∙ y) in
     let used-f : 0 < parent (f .cells) (f .spot) = reach-used (f .cells) (w .tree) (a ∷ q) (f .spot) (w .new) in
     let rest = grow-freed (f .cells) (f .index) (f .spot) b (a ∷ q) more z r (w .tree) (w .new) open-f (cds .1) (lone b) (k .2) in
     let ways = place-ways cs is s a (pos 0) f (k .1) in
@@ -207,7 +212,7 @@ module _ (cs : List Cell) (is : List ℕ) (s e : ℕ) (h : Tidy cs is) (used : 0
   base-m : at ms s .base ≡ pos e
   base-m = base-s cs ms s e (h .tree) used low-e m
 
-  codes-m : child-codes ms s ≡ codes
+  pub codes-m : child-codes ms s ≡ codes
   codes-m =
       sym (codes-same cs ms s 258 (λ a lo hi. same-some (child cs s a) (child ms s a)
       (λ u k. ap isSome (edge-child ms s a some-s (m .to u) (edge-s cs ms s e (h .tree) used low-e m a u (child-edge cs s a lo hi u k))))
@@ -219,13 +224,10 @@ module _ (cs : List Cell) (is : List ℕ) (s e : ℕ) (h : Tidy cs is) (used : 0
   index-back : index-relocated ms js s codes (base-of cs s) ≡ is
   index-back =
       let ix = index-moved ms s codes (base-of cs s) (moves-well cs s codes e (h .tree) used low-e fam-s room .tree) (used-s cs ms s e (h .tree) used low-e m) inner fam-m
-      (room-after cs s codes e (h .tree) used low-e inner fam-s room) js (λ n y. open-m n (sym base-m ∙ y)) (index-moved cs s codes e (h .tree) used low-e fam-s room is leafless (h .indexed)) in
+      (room-after cs s codes e (h .tree) used low-e inner fam-s room) js (λ n y. not-leaf e n (sym base-m ∙ y)) (index-moved cs s codes e (h .tree) used low-e fam-s room is leafless (h .indexed)) in
       index-unique cs (index-relocated ms js s codes (base-of cs s)) is
       (length-index-moves (base-of ms s) (base-of cs s) ms js codes ∙ length-index-moves (base-of cs s) e cs is codes)
       (subst (λ l. Indexed l (index-relocated ms js s codes (base-of cs s))) cells-back ix) (h .indexed)
-    where
-      open-m : (n : ℕ) → pos e ≡ negsuc n → ⊥
-      open-m n y = let x : _≡_ {A = ℕ} 0 1 = cc in omega arith
 
   -- at its own base only a node without children finds room
   no-codes : e ≡ base-of cs s → codes ≡ []
@@ -249,14 +251,14 @@ module _ (cs : List Cell) (is : List ℕ) (s e : ℕ) (h : Tidy cs is) (used : 0
       ∙ ap (λ l. record { cells = cs; index = l }) index-back)
       (cases-eq e (base-of cs s))
 
-fresh-from : (cs : List Cell) (s a : ℕ) → 0 < s → child cs s a ≡ None → (u : ℕ) → Edge cs s a u → ⊥
-fresh-from cs s a some none u g = none-some u (sym none ∙ edge-child cs s a some u g)
+pub fresh-from : (cs : List Cell) (s a : ℕ) → 0 < s → child cs s a ≡ None → (u : ℕ) → Edge cs s a u → ⊥
+fresh-from cs s a some none u g = no-some u (sym none ∙ edge-child cs s a some u g)
 
 module _ (cs : List Cell) (is : List ℕ) (s : ℕ) (h : Sound cs is) (used : 0 < parent cs s) where
-  way-s : (p : List ℕ) × Reach cs p s
+  pub way-s : (p : List ℕ) × Reach cs p s
   way-s = reach-of cs is h s used
 
-  tidy-s : Tidy cs is
+  pub tidy-s : Tidy cs is
   tidy-s = tidy-of cs is h (omega (arith, within cs s used, reach-some cs (way-s .0) s (way-s .1)))
 
 pub moving : (cs : List Cell) (is : List ℕ) (s a b : ℕ) (more : List ℕ) (z : ℤ) (f r : Spot) → Sound cs is → Open cs s (a ∷ b ∷ more) → child cs s a ≡ None
@@ -268,7 +270,7 @@ moving cs is s a b more z f r h o none e g =
     let leafless : NotLeaf cs s = inner-is (at cs s .base) (o .inner) in
     let fresh = fresh-from cs s a (reach-some cs (way .0) s (way .1)) none in
     let w = place-well cs is s a (way .0) (pos 0) tree (way .1) (cds .0 .0) (cds .0 .1) leafless fresh f e .1 in
-    let k = grow-stays (f .cells) (f .index) (f .spot) b (a ∷ way .0) more z r (w .tree) (w .new) (λ m y. no-leaf m (sym (w .base) ∙ y)) (cds .1)
+    let k = grow-stays (f .cells) (f .index) (f .spot) b (a ∷ way .0) more z r (w .tree) (w .new) (λ m y. not-leaf 0 m (sym (w .base) ∙ y)) (cds .1)
     (place-lone cs is s a (way .0) (pos 0) tree (way .1) (cds .0 .0) (cds .0 .1) leafless fresh f e) g in
     record { index = k .0; cells = k .1 }
 
@@ -293,3 +295,26 @@ undoing cs is s a more z r h o none e =
     by tidy leafless y f (inr k) =
         ap (λ l. moved-back (relocated cs s (child-codes cs s) (k .0)) l s (base-of cs s)) (sym (ap (λ x. x .index) (k .3)))
         ∙ all-back cs is s (k .0) tidy (o .used) leafless (k .1) (λ c i. k .2 c (inr i))
+
+-- a number without a leaf has none after a path with another grew
+grow-zero : (cs : List Cell) (is : List ℕ) (s a : ℕ) (q more : List ℕ) (z : ℤ) (r : Spot) (n : ℕ) → Tree cs → Reach cs q s → NotLeaf cs s → Codes (a ∷ more) → ((u : ℕ) → Edge cs s a u → ⊥) → Indexed cs is → getD is n 0 ≡ 0
+    → grow more cs is s a z ≡ Some r → getD (r .index) n 0 ≡ 0
+grow-zero cs is s a q [] z r n tree way leafless cds fresh ix none e = place-none cs is s a q z tree way (cds .0 .0) (cds .0 .1) leafless fresh r e n ix none
+grow-zero cs is s a q (b ∷ more) z r n tree way leafless cds fresh ix none e =
+    let k = then-some (place cs is s a (pos 0)) (λ x. grow more (x .cells) (x .index) (x .spot) b z) r e in
+    let f : Spot = k .0 in
+    let w = place-well cs is s a q (pos 0) tree way (cds .0 .0) (cds .0 .1) leafless fresh f (k .1) .1 in
+    let stays = grow-stays (f .cells) (f .index) (f .spot) b (a ∷ q) more z r (w .tree) (w .new) (λ m y. not-leaf 0 m (sym (w .base) ∙ y)) (cds .1)
+    (place-lone cs is s a q (pos 0) tree way (cds .0 .0) (cds .0 .1) leafless fresh f (k .1)) (k .2) in
+    ap (λ l. getD l n 0) (stays .0) ∙ place-none cs is s a q (pos 0) tree way (cds .0 .0) (cds .0 .1) leafless fresh f (k .1) n ix none
+
+pub taking-back : (cs : List Cell) (is : List ℕ) (s a : ℕ) (more : List ℕ) (n : ℕ) (r : Spot) → Sound cs is → Open cs s (a ∷ more) → child cs s a ≡ None → getD is n 0 ≡ 0
+    → grow more cs is s a (negsuc n) ≡ Some r → undo (r .cells) (set (set (r .index) n (r .spot)) n 0) s (base-of cs s) (1 + length more) (r .spot) ≡ record { cells = cs; index = is }
+taking-back cs is s a more n r h o none zero-n e =
+    let way = way-s cs is s h (o .used) in
+    let tidy = tidy-s cs is s h (o .used) in
+    let leafless : NotLeaf cs s = inner-is (at cs s .base) (o .inner) in
+    let fresh = fresh-from cs s a (reach-some cs (way .0) s (way .1)) none in
+    let still = grow-zero cs is s a (way .0) more (negsuc n) r n (tidy .tree) (way .1) leafless (codes-from (a ∷ more) (o .path)) fresh (tidy .indexed) zero-n e in
+    let same : set (set (r .index) n (r .spot)) n 0 ≡ r .index = set-set (r .index) n (r .spot) 0 ∙ ap (set (r .index) n) (sym still) ∙ set-getD (r .index) n 0 in
+    ap (λ l. undo (r .cells) l s (base-of cs s) (1 + length more) (r .spot)) same ∙ undoing cs is s a more (negsuc n) r h o none e

@@ -1,9 +1,9 @@
 -- The walk follows the paths.
 use mathlib.Core.Path.{_≡_, refl, ap, sym, subst, _∙_}
-use mathlib.Core.Bool.{Bool, true, false, cond, _&&_}
+use mathlib.Core.Bool.{true, false, cond, _&&_}
 use mathlib.Core.List.{List, [], _∷_, _++_, append-nil}
 use mathlib.Core.Logic.{⊎-elim, _⊎_, inl, inr}
-use Prim.Native.Nat.{ℕ, zero, suc, _+_, _<_, _≤_}
+use Prim.Native.Nat.{ℕ, zero, suc, _+_, _<_}
 use native.Mathlib.Omega.{arith}
 use lib.Dec.{ltb}
 use lib.IntN.{ℤ, pos, negsuc}
@@ -12,24 +12,21 @@ use lib.ListN.{length}
 use Rattle.std.specs.Options.{isSome}
 use Rattle.std.specs.declared.option.Option.{Option}
 use Rattle.std.specs.declared.option.Option.the-variants.{Some, None}
-use Rattle.std.proofs.shelf.Tests.{cases-eq, cases-bool, cond-true, cond-false, cond-both, and-parts, and-from, lt-ltb, ltb-true, eqb-true, both-ways}
+use Rattle.std.proofs.shelf.Tests.{cases-eq, cond-true, cond-both, and-parts, and-from, lt-ltb, ltb-true, eqb-true, both-ways}
 use Rattle.std.specs.shelf.Lists.{All}
 use Rattle.cells.specs.declared.Cell.{Cell}
-use Rattle.cells.specs.Cells.{free-cell, at, nat, base-of, parent, eqZ, edge, child, codes-below}
-use Rattle.cells.specs.Trees.{Edge, Reach, Tree, In, Apart, Family, Room}
-use Rattle.cells.proofs.Changes.{Shifts, Moved}
-use Rattle.cells.specs.Placing.{relocated}
+use Rattle.cells.specs.Cells.{at, nat, base-of, parent, eqZ, edge, child, codes-below}
+use Rattle.cells.specs.Trees.{Edge, Reach, In, Apart, Family}
 use Rattle.cells.specs.Walking.{onward, walk, turned}
-use Rattle.cells.proofs.Paths.{edge-up, reach-some, reach-same, root-apart, reach-unique, reach-used}
+use Rattle.cells.proofs.Basics.{no-some, some-is}
+pub use Rattle.cells.proofs.Basics.{no-some as none-some}
+use Rattle.cells.proofs.Paths.{edge-up, reach-some, reach-same}
 use Rattle.cells.proofs.Counts.{within}
-use Rattle.cells.proofs.Relocations.{nat-is, positive, eqZ-yes, relocating}
+use Rattle.cells.proofs.Relocations.{positive, eqZ-yes}
 
 -- each of them is a code
 abbrev pub Codes : List ℕ → Type 0
 Codes p = All (λ a. (0 < a) × (a < 258)) p
-
-pub none-some : (t : ℕ) → _≡_ {A = Option ℕ} None (Some t) → ⊥
-none-some t e = let z : _≡_ {A = ℕ} 0 1 = cc in omega arith
 
 positive-back : (z : ℤ) → ltZ (pos 0) z ≡ true → 0 < nat z
 positive-back (pos n) e = ltb-true 0 n e
@@ -40,7 +37,7 @@ eqZ-back (pos n) x e = ap pos (eqb-true n x e)
 eqZ-back (negsuc n) x e = absurd (both-ways false refl e)
 
 pub onward-some : (o : Option ℕ) (g : ℕ → Option ℕ) (t : ℕ) → onward o g ≡ Some t → (u : ℕ) × (o ≡ Some u) × (g u ≡ Some t)
-onward-some None g t e = absurd (none-some t e)
+onward-some None g t e = absurd (no-some t e)
 onward-some (Some u) g t e = (u, refl, e)
 
 module _ (cs : List Cell) (s a : ℕ) where
@@ -51,7 +48,7 @@ module _ (cs : List Cell) (s a : ℕ) where
       let same : base-of cs s + a ≡ t = cc in
       let h = and-parts _ _ e in
       subst (Edge cs s a) same (record { some = some; code = code; inner = positive-back (at cs s .base) (and-parts _ _ (h .0) .0); place = refl; check = eqZ-back (at cs (base-of cs s + a) .check) s (h .1) }))
-      (λ e is. absurd (none-some t is))
+      (λ e is. absurd (no-some t is))
 
   pub edge-child : 0 < s → (t : ℕ) → Edge cs s a t → child cs s a ≡ Some t
   edge-child h t e =
@@ -81,14 +78,7 @@ module _ (cs : List Cell) where
       let e : Edge cs s a (w .0) = subst (λ x. Edge cs x a (w .0)) same (w .1 .2) in
       ap (λ o. onward o (λ u. walk cs u p)) (edge-child cs s a (reach-some cs q s r) (w .0) e) ∙ reach-walk p (a ∷ q) (w .0) t (w .1) k
 
-pub walking : (cs : List Cell) → Tree cs → (p : List ℕ) → Codes p → (t : ℕ) → (walk cs 1 p ≡ Some t → Reach cs (turned p []) t) × (Reach cs (turned p []) t → walk cs 1 p ≡ Some t)
-walking cs tree p c t = (walk-reach cs p [] 1 t c refl, reach-walk cs p [] 1 t refl)
-
 -- the codes of a family
-some-is : (o : Option ℕ) → isSome o ≡ true → (t : ℕ) × (o ≡ Some t)
-some-is (Some t) e = (t, refl)
-some-is None e = absurd (both-ways false refl e)
-
 in-append : (xs ys : List ℕ) (a : ℕ) → In (xs ++ ys) a → In xs a ⊎ In ys a
 in-append [] ys a i = inr i
 in-append (x ∷ xs) ys a (inl e) = inl (inl e)

@@ -1,10 +1,10 @@
 -- What holds of the cells and the index between operations. Each is a proposition, to be carried by the struct that owns them.
 -- An array of fewer than two cells has no cell in use: Reached says so.
 use mathlib.Core.Path.{_≡_}
-use mathlib.Core.Bool.{Bool, true, false, _||_}
+use mathlib.Core.Bool.{true, _||_}
 use mathlib.Core.List.{List, []}
 use Prim.Native.Nat.{ℕ, _<_}
-use lib.IntN.{ℤ, pos}
+use lib.IntN.{pos}
 use lib.ListN.{length}
 use Rattle.cells.specs.declared.Cell.{Cell}
 use Rattle.cells.specs.Cells.{free-cell, at, parent, is-leaf, child-codes, some-code}

@@ -7,3 +7,4 @@ pub mod Trees
 pub mod Counting
 pub mod Invariant
 pub mod Laws
+pub mod Examples

@@ -1,12 +1,12 @@
 -- What an array of cells says as a tree.
 use mathlib.Core.Path.{_≡_}
-use mathlib.Core.List.{List, [], _∷_, _++_}
+use mathlib.Core.List.{List, [], _∷_}
 use mathlib.Core.Logic.{_⊎_}
-use Prim.Native.Nat.{ℕ, zero, suc, _+_, _<_, _≤_}
-use lib.IntN.{ℤ, pos, negsuc}
+use Prim.Native.Nat.{ℕ, _+_, _<_}
+use lib.IntN.{pos, negsuc}
 use lib.ListN.{length}
 use Rattle.cells.specs.declared.Cell.{Cell}
-use Rattle.cells.specs.Cells.{free-cell, at, nat, base-of, parent}
+use Rattle.cells.specs.Cells.{free-cell, at, base-of, parent}
 
 -- x is one of xs
 abbrev pub In : {X : Type 0} → List X → X → Type 0
