@@ -87,7 +87,7 @@ extended-is [] cs is s n o some e = absurd (omega arith)
 extended-is (a ∷ more) cs is s n o some e = ap (λ x. then-place x (λ r. Some (record { cells = r .cells; index = set (r .index) n (r .spot) }))) e
 
 -- the parents in a tree are cells
-tree-parents : (cs : List Cell) → Tree cs → 0 < length cs → Parented cs
+pub tree-parents : (cs : List Cell) → Tree cs → 0 < length cs → Parented cs
 tree-parents cs tree some j =
     ⊎-elim (λ z. omega arith)
     (λ nz. let w = tree .reach j (omega arith) in within cs (parent cs j) (up-used cs tree (w .0) j (w .1)))

@@ -9,3 +9,4 @@ pub mod Frees
 pub mod Follows
 pub mod Growing
 pub mod Refusals
+pub mod Changes

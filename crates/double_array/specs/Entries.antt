@@ -12,6 +12,8 @@ use Rattle.std.specs.declared.result.Result.the-variants.{Ok, Err}
 use Rattle.cells.specs.declared.Cell.{Cell}
 use Rattle.cells.specs.Cells.{is-leaf, child, some-code, all-codes}
 use Rattle.cells.specs.Placing.{Arrays, extend, enter}
+use Rattle.cells.specs.Walking.{number-at}
+use Rattle.cells.specs.Counting.{same-path}
 use Rattle.double_array.specs.declared.fault.PathFault.{PathFault}
 use Rattle.double_array.specs.declared.fault.PathFault.the-variants as fault
 
@@ -56,6 +58,10 @@ refusal cs is p u =
 abbrev pub Entry : List Cell → List ℕ → List ℕ → ℕ → Result (Unit {0}) PathFault → List Cell → List ℕ → Type 0
 Entry cs is p u (Ok _) xs js = (refusal cs is p u ≡ None) × (enter cs is p (u - 1) ≡ Some (record { cells = xs; index = js }))
 Entry cs is p u (Err e) xs js = (refusal cs is p u ≡ Some e) × (xs ≡ cs) × (js ≡ is)
+
+-- the path p is held with the number u, and each other path is as it was
+abbrev pub Added : List Cell → List ℕ → ℕ → List Cell → Type 0
+Added cs p u xs = (q : List ℕ) → number-at xs q ≡ cond (same-path q p) (Some u) (number-at cs q)
 
 -- the codes lead from s to a new leaf with the number n + 1
 abbrev pub extended : List ℕ → List Cell → List ℕ → ℕ → ℕ → Option Arrays

@@ -9,11 +9,17 @@ ghost use Rattle.cells.specs.Cells.{at};
 ghost use Rattle.cells.specs.Walking.{number-at};
 ghost use Rattle.cells.specs.Counting.{in-use};
 ghost use Rattle.cells.specs.Laws.{cleared};
+ghost use Rattle.std.specs.Vec.{made};
+ghost use Rattle.double_array.specs.Outcomes.{Taken, Removed, Counted};
+ghost use Rattle.double_array.specs.Entries.{Entry, Added};
 ghost use Rattle.double_array.specs.Views.{cells-of, index-of};
 use super::array::DoubleArray;
+use super::entering;
+use super::fault::PathFault;
 use super::paths;
 use super::placing::clear;
 use super::placing::clear_index;
+use super::pruning::take_out;
 use cells::Cell;
 
 impl DoubleArray {
@@ -41,9 +47,31 @@ impl DoubleArray {
         paths::number_at(self.cells.as_slice(), path)
     }
 
-    // How many cells are in use.
+    // Enters the path with the number, or says why it is refused and changes nothing.
+    pub fn enter(&mut self, path: &[u16], number: u32) -> Result<(), PathFault>
+        ensures cells { λ r. ⌜ Entry (cells-of (now (self .entry))) (index-of (now (self .entry))) (now (path .entry)) number r (cells-of (now (self .exit))) (index-of (now (self .exit))) ⌝ }
+        ensures paths { λ r. ⌜ made r (λ _. Added (cells-of (now (self .entry))) (now (path .entry)) number (cells-of (now (self .exit)))) ⌝ }
+    {
+        entering::enter(
+            self.cells.as_mut_slice(),
+            self.index.as_mut_slice(),
+            path,
+            number,
+        )
+    }
+
+    // Takes the path out and says its number, or changes nothing where the path is not held.
+    pub fn remove(&mut self, path: &[u16]) -> Option<u32>
+        ensures cells { λ r. ⌜ Taken (cells-of (now (self .entry))) (index-of (now (self .entry))) (now (path .entry)) r (cells-of (now (self .exit))) (index-of (now (self .exit))) ⌝ }
+        ensures paths { λ _. ⌜ Removed (cells-of (now (self .entry))) (now (path .entry)) (cells-of (now (self .exit))) ⌝ }
+    {
+        take_out(self.cells.as_mut_slice(), self.index.as_mut_slice(), path)
+    }
+
+    // How many cells are in use: one more than the different beginnings of the held paths, in an array of two cells or more.
     pub fn in_use(&self) -> usize
-        ensures { λ r. ⌜ r ≡ in-use (cells-of (now (self .entry))) ⌝ }
+        ensures cells { λ r. ⌜ r ≡ in-use (cells-of (now (self .entry))) ⌝ }
+        ensures paths { λ r. ⌜ Counted (cells-of (now (self .entry))) r ⌝ }
     {
         paths::in_use(self.cells.as_slice())
     }

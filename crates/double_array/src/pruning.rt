@@ -43,7 +43,7 @@ pub fn reset_root(cells: &mut [Cell])
 // Takes the path out and says its number, or changes nothing where the path is not held.
 pub fn take_out(cells: &mut [Cell], index: &mut [u32], path: &[u16]) -> Option<u32>
     requires room { ⌜ length (now cells) < 2 ^ 31 ⌝ }
-    requires parents { ⌜ Parented (now cells) ⌝ }
+    requires parents { ⌜ (1 < length (now cells) → Parented (now cells)) ⌝ }
     ensures { λ r. ⌜ Taken (now (cells .entry)) (now (index .entry)) (now (path .entry)) r (now (cells .exit)) (now (index .exit)) ⌝ }
 {
     if cells.len() < 2 {
