@@ -10,3 +10,4 @@ pub mod Follows
 pub mod Growing
 pub mod Refusals
 pub mod Changes
+pub mod Spells

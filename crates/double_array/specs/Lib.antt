@@ -1,3 +1,4 @@
 pub mod Outcomes
 pub mod Views
 pub mod Entries
+pub mod Spellings

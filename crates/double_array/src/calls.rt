@@ -12,9 +12,11 @@ ghost use Rattle.cells.specs.Laws.{cleared};
 ghost use Rattle.std.specs.Vec.{made};
 ghost use Rattle.double_array.specs.Outcomes.{Taken, Removed, Counted};
 ghost use Rattle.double_array.specs.Entries.{Entry, Added};
+ghost use Rattle.double_array.specs.Spellings.{Written, Named};
 ghost use Rattle.double_array.specs.Views.{cells-of, index-of};
 use super::array::DoubleArray;
 use super::entering;
+use super::fault::NumberFault;
 use super::fault::PathFault;
 use super::paths;
 use super::placing::clear;
@@ -66,6 +68,15 @@ impl DoubleArray {
         ensures paths { λ _. ⌜ Removed (cells-of (now (self .entry))) (now (path .entry)) (cells-of (now (self .exit))) ⌝ }
     {
         take_out(self.cells.as_mut_slice(), self.index.as_mut_slice(), path)
+    }
+
+    // Writes the path of the number into the front of `out` and says its length, or writes nothing where the number has no
+    // leaf or `out` is too short.
+    pub fn path_of(&self, number: u32, out: &mut [u16]) -> Result<usize, NumberFault>
+        ensures path { λ r. ⌜ Written (cells-of (now (self .entry))) (index-of (now (self .entry))) number (now (out .entry)) r (now (out .exit)) ⌝ }
+        ensures paths { λ _. ⌜ Named (cells-of (now (self .entry))) (index-of (now (self .entry))) number ⌝ }
+    {
+        paths::path_of(self.cells.as_slice(), self.index.as_slice(), number, out)
     }
 
     // How many cells are in use: one more than the different beginnings of the held paths, in an array of two cells or more.

@@ -10,3 +10,12 @@ pub enum PathFault {
     // The placing rule finds no place for one of its codes.
     NoPlace,
 }
+
+// Why the path of a number is not written, in the order in which it is judged.
+#[derive(Clone, Copy, PartialEq, Eq, Debug)]
+pub enum NumberFault {
+    // The number has no leaf in the index.
+    Unknown,
+    // The output is shorter than the path.
+    Short,
+}

@@ -1,13 +1,17 @@
 // Reading: the number at the end of a path, the path that leads to a cell, and how many cells are in use.
 ghost use mathlib.Core.Path.{_≡_};
-ghost use Prim.Native.Nat.{ℕ, _+_, _^_, _<_, _≤_};
-ghost use lib.ListN.{length};
+ghost use Prim.Native.Nat.{ℕ, _+_, _-_, _^_, _<_, _≤_};
+ghost use mathlib.Core.Bool.{cond};
+ghost use lib.ListN.{length, getD};
+ghost use Rattle.std.specs.declared.option.Option.the-variants.{Some, None};
 ghost use Rattle.std.specs.Options.{Cases};
 ghost use Rattle.cells.specs.Cells.{parent, number, is-code, all-codes};
 ghost use Rattle.cells.specs.Walking.{cell-at, number-at, path-to};
 ghost use Rattle.cells.specs.Counting.{in-use};
 ghost use Rattle.double_array.specs.Outcomes.{Upward};
+ghost use Rattle.double_array.specs.Spellings.{is-known, Pointed, Written};
 use super::edges::walk;
+use super::fault::NumberFault;
 use super::placing::cell_number;
 use cells::Cell;
 
@@ -100,6 +104,41 @@ pub fn write_path(cells: &[Cell], t: usize, out: &mut [u16])
         out[i] = (s - cell_number(cells[above].base)) as u16;
         s = above;
     }
+}
+
+// The leaf of the number, by the index.
+pub fn leaf_of(index: &[u32], number: u32) -> Option<usize>
+    ensures { λ r. ⌜ r ≡ cond (is-known (now (index .entry)) number) (Some (getD (now (index .entry)) (number - 1) 0)) None ⌝ }
+{
+    if number == 0 || number as usize > index.len() {
+        return None;
+    }
+    let t = index[number as usize - 1];
+    if t > 0 { Some(t as usize) } else { None }
+}
+
+// Writes the path of the number into the front of `out` and says its length, or writes nothing where the number has no
+// leaf or `out` is too short.
+pub fn path_of(
+    cells: &[Cell],
+    index: &[u32],
+    number: u32,
+    out: &mut [u16],
+) -> Result<usize, NumberFault>
+    requires upward { ⌜ Upward (now cells) ⌝ }
+    requires leaves { ⌜ Pointed (now cells) (now index) ⌝ }
+    requires room { ⌜ length (now cells) < 2 ^ 31 ⌝ }
+    ensures { λ r. ⌜ Written (now (cells .entry)) (now (index .entry)) number (now (out .entry)) r (now (out .exit)) ⌝ }
+{
+    let Some(t) = leaf_of(index, number) else {
+        return Err(NumberFault::Unknown);
+    };
+    let n = path_length(cells, t);
+    if out.len() < n {
+        return Err(NumberFault::Short);
+    }
+    write_path(cells, t, &mut out[0..n]);
+    Ok(n)
 }
 
 // How many cells are in use.
