@@ -1,0 +1,13 @@
+pub mod Codes
+pub mod Walks
+pub mod Moving
+pub mod Giving
+pub mod Climbs
+pub mod Uses
+pub mod Fields
+pub mod Frees
+pub mod Follows
+pub mod Growing
+pub mod Refusals
+pub mod Changes
+pub mod Spells

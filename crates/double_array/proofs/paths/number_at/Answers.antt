@@ -1,0 +1,6 @@
+use native.Mathlib.Omega.{arith}
+use Rattle.double_array.proofs.Walks.{number-none}
+use Rattle.double_array.proofs.paths.number_at.Needs as need
+
+pub returns-then-cells-lt2 : need.returns-then-cells-lt2
+returns-then-cells-lt2 c = number-none (c .args .cells .now) (omega arith) (c .args .path .now)

@@ -1,0 +1,4 @@
+pub mod Outcomes
+pub mod Views
+pub mod Entries
+pub mod Spellings

@@ -1,0 +1,47 @@
+// A double array: paths of codes 1 to 257 in cells, each with the number at its end.
+
+mod array;
+mod calls;
+mod edges;
+mod entering;
+mod fault;
+mod paths;
+mod placing;
+mod pruning;
+
+pub use array::DoubleArray;
+pub use edges::child;
+pub use edges::child_codes;
+pub use edges::has_child;
+pub use edges::is_free;
+pub use edges::is_leaf;
+pub use edges::walk;
+pub use entering::enter;
+pub use entering::extend;
+pub use entering::follow;
+pub use entering::free_up;
+pub use entering::is_open;
+pub use entering::is_path;
+pub use fault::NumberFault;
+pub use fault::PathFault;
+pub use paths::all_codes;
+pub use paths::cell_at;
+pub use paths::in_use;
+pub use paths::is_code;
+pub use paths::leaf_number;
+pub use paths::leaf_of;
+pub use paths::number_at;
+pub use paths::path_length;
+pub use paths::path_of;
+pub use paths::write_path;
+pub use placing::clear;
+pub use placing::clear_index;
+pub use placing::give_child;
+pub use placing::lowest_base;
+pub use placing::move_child;
+pub use placing::move_family;
+pub use placing::relocate;
+pub use placing::repoint;
+pub use pruning::prune;
+pub use pruning::reset_root;
+pub use pruning::take_out;
