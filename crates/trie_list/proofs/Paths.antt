@@ -2,12 +2,14 @@
 use mathlib.Core.Path.{_≡_, refl, sym, ap, subst, _∙_}
 use mathlib.Core.Bool.{Bool, true, false, _&&_}
 use mathlib.Core.List.{List, [], _∷_, _++_}
-use Prim.Native.Nat.{ℕ, suc, _+_, _-_, _<_, _≤_}
+use Prim.Native.Nat.{ℕ, zero, suc, _+_, _-_, _<_, _≤_}
 use native.Mathlib.Omega.{arith}
-use lib.Dec.{leb, eqb}
-use lib.ListN.{length}
-use Rattle.std.proofs.shelf.Tests.{and-parts, and-from, leb-true, le-leb, eqb-true, both-ways}
+use lib.Dec.{leb, ltb, eqb}
+use lib.ListN.{length, getD, take}
+use Rattle.std.proofs.shelf.Tests.{and-parts, and-from, leb-true, le-leb, ltb-true, lt-ltb, eqb-true, both-ways}
 use Rattle.lexicon.specs.Rolls.{label-sized}
+use Rattle.lexicon.proofs.Numbers.{label-bounds}
+use Rattle.cells.specs.Cells.{is-code, all-codes}
 use Rattle.trie_list.specs.Paths.{path-of, labels-of, ends-once, word-path}
 
 -- a path that begins with a code and is not at its end
@@ -61,3 +63,53 @@ ends-alone (c ∷ []) a q e f =
     omega arith
 ends-alone (c ∷ d ∷ p) a q e f =
     ends-alone (d ∷ p) a q (and-parts (leb 2 c) (ends-once (d ∷ p)) e .1) (and-parts (leb 2 c) (ends-once ((d ∷ p) ++ a ∷ q)) f .1)
+
+-- each code but the last is a label's
+pub label-low : (p : List ℕ) (k : ℕ) → ends-once p ≡ true → k + 1 < length p → 2 ≤ getD p k 0
+label-low [] k e h = absurd (omega arith)
+label-low (a ∷ []) k e h = absurd (omega arith)
+label-low (a ∷ b ∷ p) zero e h = leb-true 2 a (and-parts (leb 2 a) (ends-once (b ∷ p)) e .0)
+label-low (a ∷ b ∷ p) (suc k) e h = label-low (b ∷ p) k (and-parts (leb 2 a) (ends-once (b ∷ p)) e .1) (omega arith)
+
+-- a path has one code more than labels
+pub length-labels : (p : List ℕ) → ends-once p ≡ true → length (labels-of p) + 1 ≡ length p
+length-labels p e = sym (length-path (labels-of p)) ∙ ap length (path-labels p e)
+
+-- the path of a word has 2 to 129 codes
+pub word-path-size : (p : List ℕ) → word-path p ≡ true → (2 ≤ length p) × (length p ≤ 129)
+word-path-size p e =
+    let parts = and-parts (ends-once p) (label-sized (labels-of p)) e in
+    let sizes = label-bounds (labels-of p) (parts .1) in
+    (omega (arith, length-labels p (parts .0), sizes .0), omega (arith, length-labels p (parts .0), sizes .1))
+
+-- each code of a path is below 258
+pub code-high : (p : List ℕ) (k : ℕ) → all-codes p ≡ true → k < length p → getD p k 0 < 258
+code-high [] k e h = absurd (omega arith)
+code-high (a ∷ p) zero e h = ltb-true a 258 (and-parts (ltb 0 a) (ltb a 258) (and-parts (is-code a) (all-codes p) e .0) .1)
+code-high (a ∷ p) (suc k) e h = code-high p k (and-parts (is-code a) (all-codes p) e .1) (omega arith)
+
+-- the path of a word of bytes is one of codes
+pub path-codes : (w : List ℕ) → ((k : ℕ) → getD w k 0 < 256) → all-codes (path-of w) ≡ true
+path-codes [] bytes = refl
+path-codes (b ∷ w) bytes =
+    let low = bytes 0 in
+    and-from (is-code (b + 2)) (all-codes (path-of w)) (and-from (ltb 0 (b + 2)) (ltb (b + 2) 258) (lt-ltb 0 (b + 2) (omega arith)) (lt-ltb (b + 2) 258 (omega arith))) (path-codes w (λ k. bytes (suc k)))
+
+-- what was written code by code is the path
+pub path-written : (w p : List ℕ) → length w < length p → ((k : ℕ) → k < length w → getD p k 0 ≡ getD w k 0 + 2) → getD p (length w) 0 ≡ 1 → take (length w + 1) p ≡ path-of w
+path-written w [] h codes end = absurd (omega arith)
+path-written [] (a ∷ p) h codes end = ap (λ (k : ℕ). k ∷ []) end
+path-written (b ∷ w) (a ∷ p) h codes end =
+    let next : suc (length w) + 1 ≡ suc (length w + 1) = omega arith in
+    ap (λ (n : ℕ). take n (a ∷ p)) next
+    ∙ ap (λ (k : ℕ). k ∷ take (length w + 1) p) (codes 0 (omega arith))
+    ∙ ap (λ (z : List ℕ). (b + 2) ∷ z) (path-written w p (omega arith) (λ k low. codes (suc k) (omega arith)) end)
+
+-- what was written label by label is the word
+pub labels-written : (p w : List ℕ) (n : ℕ) → n + 1 ≡ length p → n ≤ length w → ((k : ℕ) → k < n → getD w k 0 ≡ getD p k 0 - 2) → take n w ≡ labels-of p
+labels-written [] w n e h labels = absurd (omega arith)
+labels-written (a ∷ []) w n e h labels = ap (λ (k : ℕ). take k w) (let z : n ≡ 0 = omega arith in z)
+labels-written (a ∷ b ∷ p) w zero e h labels = absurd (omega arith)
+labels-written (a ∷ b ∷ p) [] (suc n) e h labels = absurd (omega arith)
+labels-written (a ∷ b ∷ p) (c ∷ w) (suc n) e h labels =
+    ap (λ (k : ℕ). k ∷ take n w) (labels 0 (omega arith)) ∙ ap (λ (z : List ℕ). (a - 2) ∷ z) (labels-written (b ∷ p) w n (omega arith) (omega arith) (λ k low. labels (suc k) (omega arith)))
