@@ -1,0 +1,50 @@
+-- What a trie list means, and what its arrays hold.
+use mathlib.Core.Path.{_≡_}
+use mathlib.Core.Bool.{Bool, _&&_}
+use mathlib.Core.List.{List}
+use Prim.Native.Nat.{ℕ, _+_, _<_, min}
+use lib.Dec.{ltb}
+use lib.ListN.{length, getD}
+use Rattle.std.specs.Options.{isSome}
+use Rattle.std.specs.declared.option.Option.the-variants.{Some}
+use Rattle.refusal.specs.declared.ListFault.{ListFault}
+use Rattle.refusal.specs.declared.ListFault.the-variants.{WordLength, UnknownWord, NoRoom, OutputTooShort}
+use Rattle.cells.specs.Cells.{at}
+use Rattle.cells.specs.Laws.{cleared}
+use Rattle.cells.specs.Placing.{enter}
+use Rattle.double_array.specs.Views.{cells-of, index-of}
+use Rattle.double_array.specs.declared.fault.PathFault.{PathFault}
+use Rattle.double_array.specs.declared.fault.PathFault.the-variants as path
+use Rattle.trie_list.specs.Paths.{path-of}
+use Rattle.trie_list.specs.Rolls.{words-of}
+use Rattle.trie_list.specs.declared.list.TrieList.{TrieList}
+
+-- the words: those of the numbers that are counted, read upward from their leaves
+abbrev pub roll-of : TrieList → List (List ℕ)
+roll-of s = words-of (cells-of (s .array)) (index-of (s .array)) (s .count)
+
+-- room for a word: a number is left, up to 65,535, and the placing rule finds every place of its path
+abbrev pub room-of : TrieList → List ℕ → Bool
+room-of s word =
+    ltb (s .count) (min (length (index-of (s .array))) 65535)
+    && isSome (enter (cells-of (s .array)) (index-of (s .array)) (path-of word) (s .count))
+
+-- a list newly made of n cells and k index entries: every cell free but the root, every entry 0, and no word
+pub record Made (n k : ℕ) (s : TrieList) : Type 0 where
+  pub cells-long : length (cells-of (s .array)) ≡ min n 1048576
+  pub cells-clear : (j : ℕ) → j < length (cells-of (s .array)) → at (cells-of (s .array)) j ≡ cleared j
+  pub index-long : length (index-of (s .array)) ≡ k
+  pub index-zero : (n : ℕ) → getD (index-of (s .array)) n 0 ≡ 0
+  pub no-words : s .count ≡ 0
+
+-- the list t is s with a word more: its cells and its index are what the placing rule leaves when the path of the word is entered with the next number
+pub record Placed (s : TrieList) (word : List ℕ) (t : TrieList) : Type 0 where
+  pub arrays-after : enter (cells-of (s .array)) (index-of (s .array)) (path-of word) (s .count) ≡ Some (record { cells = cells-of (t .array); index = index-of (t .array) })
+  pub count-after : t .count ≡ s .count + 1
+
+-- what a path that is refused means for a word
+abbrev pub path-fault : PathFault → ListFault
+path-fault path.Path = WordLength
+path-fault path.Number = NoRoom
+path-fault path.Blocked = NoRoom
+path-fault path.NoPlace = NoRoom
