@@ -23,11 +23,11 @@ use cells::Cell;
 
 // What an entry has done so far: the node that got a child, its base before, how many cells are new, and the last of them.
 #[derive(Clone, Copy)]
-pub struct Growth {
-    pub node: usize,
-    pub base: usize,
-    pub new: usize,
-    pub tip: usize,
+struct Growth {
+    node: usize,
+    base: usize,
+    new: usize,
+    tip: usize,
 }
 
 // Whether it is a path: 1 to 129 codes.
