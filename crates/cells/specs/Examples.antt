@@ -7,8 +7,8 @@ use lib.ListN.{set, replicate}
 use Rattle.std.specs.declared.option.Option.{Option}
 use Rattle.std.specs.declared.option.Option.the-variants.{Some, None}
 use Rattle.cells.specs.declared.Cell.{Cell}
-use Rattle.cells.specs.Cells.{free-cell, root-cell}
-use Rattle.cells.specs.Placing.{Arrays, enter}
+use Rattle.cells.specs.Cells.{free-cell, root-cell, base-of}
+use Rattle.cells.specs.Placing.{Arrays, then-place, grow, enter, undo}
 use Rattle.cells.specs.Pruning.{take-out}
 use Rattle.cells.specs.Counting.{in-use}
 
@@ -65,6 +65,24 @@ second-path = 2 ∷ 3 ∷ 7 ∷ 2 ∷ 4 ∷ []
 abbrev pub third-path : List ℕ
 third-path = 2 ∷ 3 ∷ 6 ∷ 2 ∷ 5 ∷ []
 
+-- two paths with a node of their own each
+abbrev pub two-paths : List (List ℕ)
+two-paths = (3 ∷ 1 ∷ []) ∷ (5 ∷ 1 ∷ []) ∷ []
+
+-- the cells that hold them: the cell 2, at which the root would have a child by the code 1, is taken
+abbrev pub two-held : Arrays
+two-held = record {
+  cells = written (replicate 10 free-cell) (
+      record { place = 1; base = pos 1; check = 1 } ∷ record { place = 2; base = negsuc 0; check = 4 } ∷ record { place = 3; base = negsuc 1; check = 6 }
+      ∷ record { place = 4; base = pos 1; check = 1 } ∷ record { place = 6; base = pos 2; check = 1 } ∷ []);
+  index = 2 ∷ 3 ∷ 0 ∷ [];
+}
+
+-- the paths are taken out in turn
+abbrev pub out-all : Option Arrays → List (List ℕ) → Option Arrays
+out-all o [] = o
+out-all o (p ∷ more) = out-all (then-with o (λ xs. take-out (xs .cells) (xs .index) p)) more
+
 -- what comes of them
 pub record Examples : Type 0 where
   -- in 104 cells a, b and ab have a place: the leaf of a moves from 2 to 4, and its index entry follows
@@ -94,6 +112,18 @@ pub record Examples : Type 0 where
   pub out : used-then (then-with (enter-all (Some (new-arrays 13 3)) 0 (first-path ∷ second-path ∷ third-path ∷ [])) (λ xs. take-out (xs .cells) (xs .index) second-path)) ≡ Some 7
   -- an only path is entered and taken out: what is left is the new array
   pub empty : then-with (enter-all (Some (new-arrays 8 3)) 0 (first-path ∷ [])) (λ xs. take-out (xs .cells) (xs .index) first-path) ≡ Some (new-arrays 8 3)
+  pub two : enter-all (Some (new-arrays 10 3)) 0 two-paths ≡ Some two-held
+  -- the root's family moves for a third path: both children, and the CHECK of theirs
+  pub family : enter-all (Some two-held) 2 ((1 ∷ []) ∷ []) ≡ Some (record {
+    cells = written (replicate 10 free-cell) (
+        record { place = 1; base = pos 4; check = 1 } ∷ record { place = 2; base = negsuc 0; check = 7 } ∷ record { place = 3; base = negsuc 1; check = 9 }
+        ∷ record { place = 5; base = negsuc 2; check = 1 } ∷ record { place = 7; base = pos 1; check = 1 } ∷ record { place = 9; base = pos 2; check = 1 } ∷ []);
+    index = 2 ∷ 3 ∷ 5 ∷ [];
+  })
+  -- without the three the root has the BASE 1 again
+  pub emptied : out-all (enter-all (Some two-held) 2 ((1 ∷ []) ∷ [])) ((1 ∷ []) ∷ two-paths) ≡ Some (new-arrays 10 3)
+  -- two new cells below the root, for which its family moved, are undone
+  pub undone : then-place (grow (1 ∷ []) (two-held .cells) (two-held .index) 1 1 (pos 0)) (λ r. Some (undo (r .cells) (r .index) 1 (base-of (two-held .cells) 1) 2 (r .spot))) ≡ Some two-held
   -- two cells are a root and no more, and fewer have none in use
   pub none : enter-all (Some (new-arrays 2 3)) 0 ((1 ∷ []) ∷ []) ≡ None
   pub root : in-use (new-arrays 2 3 .cells) ≡ 1
