@@ -84,10 +84,7 @@ mod tests {
         let mut array = made(rt.alloc(), 103, 3)?;
         check_eq(array.enter(&[99, 1], 1), Ok(()))?;
         check_eq(array.enter(&[100, 1], 2), Ok(()))?;
-        check_eq(
-            array.enter(&[99, 100, 1], 3),
-            Err(PathFault::NoPlace),
-        )?;
+        check_eq(array.enter(&[99, 100, 1], 3), Err(PathFault::NoPlace))?;
         let table = [
             held(1, 1, 1),
             held(2, -1, 100),
@@ -109,12 +106,7 @@ mod tests {
         check_eq(array.enter(&[1, 200], 8), Err(PathFault::NoPlace))?;
         check(cells_are(&array, &before))?;
         check_eq(array.enter(&[1], 8), Ok(()))?;
-        let after = [
-            held(1, 2, 1),
-            held(2, -7, 5),
-            held(3, -8, 1),
-            held(5, 1, 1),
-        ];
+        let after = [held(1, 2, 1), held(2, -7, 5), held(3, -8, 1), held(5, 1, 1)];
         check(cells_are(&array, &after))?;
         check_eq(array.number_at(&[3, 1]), Some(7))?;
         check_eq(array.number_at(&[3]), None)
@@ -157,10 +149,7 @@ mod tests {
         check_eq(array.enter(&[0], 2), Err(PathFault::Path))?;
         check_eq(array.enter(&[4], 0), Err(PathFault::Number))?;
         check_eq(array.enter(&[4], 1), Err(PathFault::Number))?;
-        check_eq(
-            array.enter(&[4], 2_147_483_648),
-            Err(PathFault::Number),
-        )?;
+        check_eq(array.enter(&[4], 2_147_483_648), Err(PathFault::Number))?;
         check_eq(array.enter(&[4], 2), Err(PathFault::Blocked))?;
         check_eq(array.enter(&[4, 5], 2), Err(PathFault::Blocked))?;
         check_eq(array.enter(&[4, 5, 6], 2), Err(PathFault::Blocked))?;
