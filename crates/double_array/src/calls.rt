@@ -91,13 +91,13 @@ impl DoubleArray {
     pub fn cells(&self) -> &[Cell]
         ensures { λ r. ⌜ now r ≡ cells-of (now (self .entry)) ⌝ }
     {
-        self.cells.as_slice()
+        &self.cells
     }
 
     // The index.
     pub fn index(&self) -> &[u32]
         ensures { λ r. ⌜ now r ≡ index-of (now (self .entry)) ⌝ }
     {
-        self.index.as_slice()
+        &self.index
     }
 }

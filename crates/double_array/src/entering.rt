@@ -23,11 +23,11 @@ use cells::Cell;
 
 // What an entry has done so far: the node that got a child, its base before, how many cells are new, and the last of them.
 #[derive(Clone, Copy)]
-pub struct Growth {
-    pub node: usize,
-    pub base: usize,
-    pub new: usize,
-    pub tip: usize,
+struct Growth {
+    node: usize,
+    base: usize,
+    new: usize,
+    tip: usize,
 }
 
 // Whether it is a path: 1 to 129 codes.
@@ -110,13 +110,7 @@ fn leaf_base(number: u32) -> i32
 
 // Gives `s` a child by the first code, that one a child by the next, and so on to a leaf with the number. Where one has no
 // place, all is undone.
-pub fn extend(
-    cells: &mut [Cell],
-    index: &mut [u32],
-    s: usize,
-    codes: &[u16],
-    number: u32,
-) -> bool
+pub fn extend(cells: &mut [Cell], index: &mut [u32], s: usize, codes: &[u16], number: u32) -> bool
     requires room { ⌜ length (now cells) < 2 ^ 31 ⌝ }
     requires number { ⌜ (0 < number) × (number < 2 ^ 31) ⌝ }
     requires some { ⌜ 0 < length (now codes) ⌝ }

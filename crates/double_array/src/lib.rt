@@ -1,4 +1,8 @@
 // A double array: paths of codes 1 to 257 in cells, each with the number at its end.
+//
+// `DoubleArray` owns the cells and the index, and is the one way to change them: it is made, a path
+// is entered or removed, and the path of a number and the number of a path are read. The functions
+// below it work on slices of cells, each with the cells that it leaves as its contract.
 
 mod array;
 mod calls;
@@ -11,37 +15,12 @@ mod pruning;
 
 pub use array::DoubleArray;
 pub use edges::child;
-pub use edges::child_codes;
-pub use edges::has_child;
-pub use edges::is_free;
 pub use edges::is_leaf;
-pub use edges::walk;
-pub use entering::enter;
-pub use entering::extend;
-pub use entering::follow;
-pub use entering::free_up;
-pub use entering::is_open;
-pub use entering::is_path;
 pub use fault::NumberFault;
+pub use fault::NumberFaultDebug;
+pub use fault::NumberFaultPartialEq;
 pub use fault::PathFault;
-pub use paths::all_codes;
+pub use fault::PathFaultDebug;
+pub use fault::PathFaultPartialEq;
 pub use paths::cell_at;
-pub use paths::in_use;
-pub use paths::is_code;
 pub use paths::leaf_number;
-pub use paths::leaf_of;
-pub use paths::number_at;
-pub use paths::path_length;
-pub use paths::path_of;
-pub use paths::write_path;
-pub use placing::clear;
-pub use placing::clear_index;
-pub use placing::give_child;
-pub use placing::lowest_base;
-pub use placing::move_child;
-pub use placing::move_family;
-pub use placing::relocate;
-pub use placing::repoint;
-pub use pruning::prune;
-pub use pruning::reset_root;
-pub use pruning::take_out;

@@ -65,10 +65,11 @@ returns-in-None c =
     c .undo .ensures
     ∙ ap (λ (x : List Cell). undo x (c .give-child .last .index) s (c .cell-number-before .result) (l .i) (l .tip)) (none .1)
     ∙ ap (λ (x : List ℕ). undo (l .cells) x s (c .cell-number-before .result) (l .i) (l .tip)) (none .2)
-    ∙ ap (λ b. undo (l .cells) (l .index) s b (l .i) (l .tip)) low ∙ way .back in
-    (extended-is codes cs is s n None (c .pre .some) (ap (λ y. grow-on codes y (record { cells = cs; index = is; spot = s })) (sym number) ∙ sym stuck),
-    ap (λ (x : Arrays). x .cells) back,
-    ap (λ (x : Arrays). x .index) back)
+    ∙ ap (λ b. undo (l .cells) (l .index) s b (l .i) (l .tip)) low ∙ way .back in (
+      extended-is codes cs is s n None (c .pre .some) (ap (λ y. grow-on codes y (record { cells = cs; index = is; spot = s })) (sym number) ∙ sym stuck),
+      ap (λ (x : Arrays). x .cells) back,
+      ap (λ (x : Arrays). x .index) back,
+    )
 
 pub loop-i-again : need.loop-i-again
 loop-i-again c =
@@ -85,11 +86,12 @@ loop-i-again c =
       | then-i-codes w ↦ sym (c .if-i-codes .base-is) ∙ w .base-is ∙ sym (step-more codes (l .i) z (w .if-i-codes .taken))
       | else-i-codes w ↦ sym (c .if-i-codes .base-is) ∙ w .base-is ∙ sym (step-last codes (l .i) z (w .if-i-codes .left))
     ] in
-    let placed = c .in-Some .ensures tt .place in
-    (c .in-Some .ensures tt .within,
-    grow-next codes (l .i) z r _ (c .loop-i-test .taken) (c .if-i-codes .base-is ∙ base) (Some f) placed ∙ l .inv .1,
-    λ more. grow-more codes (l .i) (record { cells = cs; index = is; spot = s }) r f (c .loop-i-test .taken) (l .inv .2 (c .loop-i-test .taken))
-    (ap (place (l .cells) (l .index) (l .tip) (getD codes (l .i) 0)) (sym (c .if-i-codes .base-is ∙ base ∙ step-more codes (l .i) z more)) ∙ placed))
+    let placed = c .in-Some .ensures tt .place in (
+      c .in-Some .ensures tt .within,
+      grow-next codes (l .i) z r _ (c .loop-i-test .taken) (c .if-i-codes .base-is ∙ base) (Some f) placed ∙ l .inv .1,
+      λ more. grow-more codes (l .i) (record { cells = cs; index = is; spot = s }) r f (c .loop-i-test .taken) (l .inv .2 (c .loop-i-test .taken))
+          (ap (place (l .cells) (l .index) (l .tip) (getD codes (l .i) 0)) (sym (c .if-i-codes .base-is ∙ base ∙ step-more codes (l .i) z more)) ∙ placed),
+    )
 
 pub returns : need.returns
 returns c =

@@ -11,7 +11,7 @@ abbrev pub Inv-loop-i : given.InvT-loop-i
 Inv-loop-i l =
     (l .tip < length (l .cells))
     × (grow-on (drop (l .i) (l .codes)) (l .leaf) (record { cells = l .cells; index = l .index; spot = l .tip })
-        ≡ grow-on (l .codes) (l .leaf) (record { cells = l .entry .cells; index = l .entry .index; spot = l .s }))
+    ≡ grow-on (l .codes) (l .leaf) (record { cells = l .entry .cells; index = l .entry .index; spot = l .s }))
     × (l .i < length (l .codes)
-        → grow-on (take (l .i) (l .codes)) (pos 0) (record { cells = l .entry .cells; index = l .entry .index; spot = l .s })
-        ≡ Some (record { cells = l .cells; index = l .index; spot = l .tip }))
+    → grow-on (take (l .i) (l .codes)) (pos 0) (record { cells = l .entry .cells; index = l .entry .index; spot = l .s })
+    ≡ Some (record { cells = l .cells; index = l .index; spot = l .tip }))
