@@ -21,8 +21,8 @@ use Rattle.cells.specs.Laws.{Enters, TakesOut}
 use Rattle.cells.proofs.Numbers.{decides-same}
 use Rattle.cells.proofs.Enters.{entering}
 use Rattle.cells.proofs.TakesOut.{taking}
-use Rattle.double_array.specs.declared.fault.PathFault.{PathFault}
-use Rattle.double_array.specs.declared.fault.PathFault.the-variants as fault
+use Rattle.refusal.specs.declared.PathFault.{PathFault}
+use Rattle.refusal.specs.declared.PathFault.the-variants as fault
 use Rattle.double_array.specs.Outcomes.{Taken, Removed}
 use Rattle.double_array.specs.Entries.{is-path, is-open, refusal, Entry, Added}
 

@@ -16,8 +16,8 @@ use Rattle.cells.specs.Cells.{at, base-of, is-free, is-leaf, child, child-codes
 use Rattle.cells.specs.Placing.{Arrays, Spot, Lowest, lowest, placed-at, place, then-place, grow, extend, found-or, enter-from, enter}
 use Rattle.cells.proofs.Lowests.{lowest-holds}
 use Rattle.cells.proofs.Sounds.{short-root, short-child}
-use Rattle.double_array.specs.declared.fault.PathFault.{PathFault}
-use Rattle.double_array.specs.declared.fault.PathFault.the-variants as fault
+use Rattle.refusal.specs.declared.PathFault.{PathFault}
+use Rattle.refusal.specs.declared.PathFault.the-variants as fault
 use Rattle.double_array.specs.Entries.{Followed, follow, or-stop, is-path, is-open, is-new, no-place, refusal, extended}
 use Rattle.double_array.proofs.Giving.{some-yes, some-no}
 use Rattle.double_array.proofs.Follows.{stop}

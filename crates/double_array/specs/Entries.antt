@@ -14,8 +14,8 @@ use Rattle.cells.specs.Cells.{is-leaf, child, some-code, all-codes}
 use Rattle.cells.specs.Placing.{Arrays, extend, enter}
 use Rattle.cells.specs.Walking.{number-at}
 use Rattle.cells.specs.Counting.{same-path}
-use Rattle.double_array.specs.declared.fault.PathFault.{PathFault}
-use Rattle.double_array.specs.declared.fault.PathFault.the-variants as fault
+use Rattle.refusal.specs.declared.PathFault.{PathFault}
+use Rattle.refusal.specs.declared.PathFault.the-variants as fault
 
 -- a node, and what is left of a path there
 pub record Followed : Type 0 where

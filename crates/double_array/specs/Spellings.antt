@@ -12,8 +12,8 @@ use Rattle.std.specs.declared.result.Result.the-variants.{Ok, Err}
 use Rattle.cells.specs.declared.Cell.{Cell}
 use Rattle.cells.specs.Cells.{parent}
 use Rattle.cells.specs.Walking.{number-at, path-to}
-use Rattle.double_array.specs.declared.fault.NumberFault.{NumberFault}
-use Rattle.double_array.specs.declared.fault.NumberFault.the-variants.{Unknown, Short}
+use Rattle.refusal.specs.declared.NumberFault.{NumberFault}
+use Rattle.refusal.specs.declared.NumberFault.the-variants.{Unknown, Short}
 
 -- whether the number u has a leaf in the index
 abbrev pub is-known : List ℕ → ℕ → Bool

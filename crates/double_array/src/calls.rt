@@ -16,13 +16,13 @@ ghost use Rattle.double_array.specs.Spellings.{Written, Named};
 ghost use Rattle.double_array.specs.Views.{cells-of, index-of};
 use super::array::DoubleArray;
 use super::entering;
-use super::fault::NumberFault;
-use super::fault::PathFault;
 use super::paths;
 use super::placing::clear;
 use super::placing::clear_index;
 use super::pruning::take_out;
 use cells::Cell;
+use refusal::NumberFault;
+use refusal::PathFault;
 
 impl DoubleArray {
     // The most cells that an array has.

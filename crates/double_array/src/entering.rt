@@ -13,13 +13,13 @@ ghost use Rattle.double_array.specs.Entries.{follow as followed, is-path, is-o
 use super::edges::child;
 use super::edges::child_codes;
 use super::edges::is_leaf;
-use super::fault::PathFault;
 use super::paths::all_codes;
 use super::placing::cell_number;
 use super::placing::give_child;
 use super::placing::move_family;
 use super::placing::note_leaf;
 use cells::Cell;
+use refusal::PathFault;
 
 // What an entry has done so far: the node that got a child, its base before, how many cells are new, and the last of them.
 #[derive(Clone, Copy)]

@@ -11,9 +11,9 @@ ghost use Rattle.cells.specs.Counting.{in-use};
 ghost use Rattle.double_array.specs.Outcomes.{Upward};
 ghost use Rattle.double_array.specs.Spellings.{is-known, Pointed, Written};
 use super::edges::walk;
-use super::fault::NumberFault;
 use super::placing::cell_number;
 use cells::Cell;
+use refusal::NumberFault;
 
 // Whether it is the code of the end sign, 1, or of a label, 2 to 257.
 pub fn is_code(code: u16) -> bool

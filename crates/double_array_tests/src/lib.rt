@@ -5,12 +5,12 @@ mod tests {
     use cells::Cell;
     use cells::CellPartialEq;
     use double_array::DoubleArray;
-    use double_array::NumberFault;
-    use double_array::NumberFaultDebug;
-    use double_array::NumberFaultPartialEq;
-    use double_array::PathFault;
-    use double_array::PathFaultDebug;
-    use double_array::PathFaultPartialEq;
+    use refusal::NumberFault;
+    use refusal::NumberFaultDebug;
+    use refusal::NumberFaultPartialEq;
+    use refusal::PathFault;
+    use refusal::PathFaultDebug;
+    use refusal::PathFaultPartialEq;
     use std::alloc::AllocError;
     use std::alloc::Global;
     use std::test::*;

@@ -12,6 +12,10 @@ use Rattle.refusal.specs.declared.Refusal.the-variants.{WordLength, RelationZe
 use Rattle.refusal.specs.declared.Report.{Report}
 use Rattle.refusal.specs.declared.SpellFault.{SpellFault}
 use Rattle.refusal.specs.declared.SpellFault.the-variants.{WordLength as NotSpelled}
+use Rattle.refusal.specs.declared.PathFault.{PathFault}
+use Rattle.refusal.specs.declared.PathFault.the-variants.{Path, Number, Blocked, NoPlace as NotPlaced}
+use Rattle.refusal.specs.declared.NumberFault.{NumberFault}
+use Rattle.refusal.specs.declared.NumberFault.the-variants.{Unknown, Short as TooShort}
 use Rattle.refusal.specs.declared.ListFault.{ListFault}
 use Rattle.refusal.specs.declared.ListFault.the-variants.{WordLength as NotSized, UnknownWord as NotHeld, NoRoom as Full, OutputTooShort as Short}
 
@@ -40,6 +44,18 @@ list-refusal NotSized side = WordLength side
 list-refusal NotHeld side = UnknownWord side
 list-refusal Full side = NoRoom side
 list-refusal Short side = OutputTooShort
+
+-- what a refused path means for a word
+abbrev pub path-refusal : PathFault → ListFault
+path-refusal Path = NotSized
+path-refusal Number = Full
+path-refusal Blocked = Full
+path-refusal NotPlaced = Full
+
+-- what a refused number means for a word
+abbrev pub number-refusal : NumberFault → ListFault
+number-refusal Unknown = NotHeld
+number-refusal TooShort = Short
 
 -- the number of a layer
 abbrev pub layer-number : Layer → ℕ

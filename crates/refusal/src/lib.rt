@@ -5,7 +5,7 @@
 // The rules stand in docs/REFUSALS.md.
 ghost use mathlib.Core.Path.{_≡_};
 ghost use Rattle.refusal.specs.declared.Side.the-variants.{Neither};
-ghost use Rattle.refusal.specs.Reports.{report-of, report-text, spell-refusal, list-refusal};
+ghost use Rattle.refusal.specs.Reports.{report-of, report-text, spell-refusal, list-refusal, path-refusal, number-refusal};
 ghost use Rattle.std.specs.declared.option.Option.the-variants.{Some};
 use std::fmt;
 
@@ -81,6 +81,28 @@ pub enum ListFault {
     OutputTooShort,
 }
 
+// Entering a path into a double array, in the order in which it is judged.
+#[derive(Clone, Copy, PartialEq, Eq, Debug)]
+pub enum PathFault {
+    // It is empty, longer than 129 codes, or has a code outside 1 to 257.
+    Path,
+    // The number is 0, above 2,147,483,647, or has a leaf already.
+    Number,
+    // The path is held, runs through a leaf, or ends above one.
+    Blocked,
+    // The placing rule finds no place for one of its codes: make a larger array.
+    NoPlace,
+}
+
+// Reading the path of a number of a double array, in the order in which it is judged.
+#[derive(Clone, Copy, PartialEq, Eq, Debug)]
+pub enum NumberFault {
+    // The number has no leaf in the index.
+    Unknown,
+    // The output is shorter than the path: lend one of 129 places.
+    Short,
+}
+
 impl Refusal {
     // The number, the layer and the side of the refusal.
     pub fn report(self) -> Report
@@ -147,6 +169,33 @@ pub impl From<ListFault> for Refusal as RefusalFromList {
 
     fn from(list_fault: ListFault) -> Refusal {
         list_fault.at(Side::Neither)
+    }
+}
+
+// A word whose path is refused. A list hands out each number once, and no word's path runs through
+// the end of another, so of a word list only the length and the place are ever refused.
+pub impl From<PathFault> for ListFault as ListFromPath {
+    ghost converts = { λ e r. r ≡ path-refusal e };
+
+    fn from(path_fault: PathFault) -> ListFault {
+        match path_fault {
+            PathFault::Path => ListFault::WordLength,
+            PathFault::Number => ListFault::NoRoom,
+            PathFault::Blocked => ListFault::NoRoom,
+            PathFault::NoPlace => ListFault::NoRoom,
+        }
+    }
+}
+
+// A number whose path is not written, as a list refuses the number.
+pub impl From<NumberFault> for ListFault as ListFromNumber {
+    ghost converts = { λ e r. r ≡ number-refusal e };
+
+    fn from(number_fault: NumberFault) -> ListFault {
+        match number_fault {
+            NumberFault::Unknown => ListFault::UnknownWord,
+            NumberFault::Short => ListFault::OutputTooShort,
+        }
     }
 }
 

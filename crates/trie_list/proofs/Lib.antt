@@ -1,3 +1,4 @@
 pub mod Paths
 pub mod Rolls
 pub mod Blocks
+pub mod Lists

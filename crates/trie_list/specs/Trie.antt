@@ -1,20 +1,20 @@
 -- What a trie list means, and what its arrays hold.
 use mathlib.Core.Path.{_≡_}
-use mathlib.Core.Bool.{Bool, _&&_}
-use mathlib.Core.List.{List}
+use mathlib.Core.Bool.{Bool, true, false, _&&_}
+use mathlib.Core.List.{List, [], _∷_, _++_}
 use Prim.Native.Nat.{ℕ, _+_, _<_, min}
 use lib.Dec.{ltb}
 use lib.ListN.{length, getD}
 use Rattle.std.specs.Options.{isSome}
 use Rattle.std.specs.declared.option.Option.the-variants.{Some}
+use Rattle.std.specs.declared.result.Result.{Result}
+use Rattle.std.specs.declared.result.Result.the-variants.{Ok, Err}
 use Rattle.refusal.specs.declared.ListFault.{ListFault}
-use Rattle.refusal.specs.declared.ListFault.the-variants.{WordLength, UnknownWord, NoRoom, OutputTooShort}
+use Rattle.refusal.specs.declared.ListFault.the-variants.{NoRoom}
 use Rattle.cells.specs.Cells.{at}
 use Rattle.cells.specs.Laws.{cleared}
 use Rattle.cells.specs.Placing.{enter}
 use Rattle.double_array.specs.Views.{cells-of, index-of}
-use Rattle.double_array.specs.declared.fault.PathFault.{PathFault}
-use Rattle.double_array.specs.declared.fault.PathFault.the-variants as path
 use Rattle.trie_list.specs.Paths.{path-of}
 use Rattle.trie_list.specs.Rolls.{words-of}
 use Rattle.trie_list.specs.declared.list.TrieList.{TrieList}
@@ -42,9 +42,7 @@ pub record Placed (s : TrieList) (word : List ℕ) (t : TrieList) : Type 0 where
   pub arrays-after : enter (cells-of (s .array)) (index-of (s .array)) (path-of word) (s .count) ≡ Some (record { cells = cells-of (t .array); index = index-of (t .array) })
   pub count-after : t .count ≡ s .count + 1
 
--- what a path that is refused means for a word
-abbrev pub path-fault : PathFault → ListFault
-path-fault path.Path = WordLength
-path-fault path.Number = NoRoom
-path-fault path.Blocked = NoRoom
-path-fault path.NoPlace = NoRoom
+-- a new word is entered where there is room, and is then the last of the roll; without room it is refused and nothing changes
+abbrev pub Appends : TrieList → List ℕ → Result ℕ ListFault → TrieList → Type 0
+Appends s word (Ok number) t = (room-of s word ≡ true) × (number ≡ s .count + 1) × Placed s word t × (roll-of t ≡ roll-of s ++ word ∷ [])
+Appends s word (Err fault) t = (room-of s word ≡ false) × (fault ≡ NoRoom) × (t ≡ s)

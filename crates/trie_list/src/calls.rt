@@ -1,22 +1,23 @@
 // The calls of a trie list.
 ghost use mathlib.Core.Path.{_≡_};
 ghost use mathlib.Core.Bool.{true};
-ghost use mathlib.Core.List.{List, [], _∷_, _++_};
 ghost use Prim.Native.Nat.{_≤_};
-ghost use lib.ListN.{length};
+ghost use lib.ListN.{length, take};
 ghost use Rattle.std.specs.Of.Vec.{vec-len};
-ghost use Rattle.lexicon.specs.Rolls.{number-of, numbered};
+ghost use Rattle.std.specs.declared.option.Option.the-variants.{None};
+ghost use Rattle.lexicon.specs.Rolls.{label-sized, number-of, numbered, word-of};
 ghost use Rattle.double_array.specs.Views.{cells-of, index-of};
-ghost use Rattle.trie_list.specs.Trie.{roll-of, room-of, Made, Placed, path-fault};
+ghost use Rattle.trie_list.specs.Trie.{roll-of, room-of, Made, Placed, Appends};
 use super::list::TrieList;
+use super::spelling::write_labels;
 use super::spelling::write_path;
 use cells::Cell;
 use double_array::DoubleArray;
-use double_array::PathFault;
 use lexicon::GrowingList;
 use lexicon::ReadableList;
 use lexicon::has_label_size;
 use refusal::ListFault;
+use refusal::ListFromPath;
 
 // A list has at most as many words as a 16-bit number counts.
 const MAX_WORDS: usize = 65_535;
@@ -61,10 +62,83 @@ impl TrieList {
         }
     }
 
+    // Writes the labels of the word of a number from the start of the output, and answers how many
+    // there are.
+    fn labels_of(&self, number: u16, labels: &mut [u8; 128]) -> usize
+        requires { ⌜ numbered (roll-of (now self)) number ≡ true ⌝ }
+        ensures { λ r. ⌜ take r (now (labels .exit)) ≡ word-of (roll-of (now (self .entry))) number ⌝ }
+        ensures { λ r. ⌜ r ≤ 128 ⌝ }
+    {
+        let mut path = [0u16; 129];
+        match self.array.path_of(number as u32, &mut path) {
+            Ok(size) => write_labels(&path[0..size], labels),
+            Err(_) => 0,
+        }
+    }
+
     // Some word has the number.
     fn is_numbered(&self, number: u16) -> bool
         ensures { λ r. ⌜ r ≡ numbered (roll-of (now (self .entry))) number ⌝ }
     {
         1 <= number && number as usize <= self.count
+    }
+
+    // Enters a word that the list lacks with the next number, and answers that number.
+    fn append(&mut self, word: &[u8]) -> Result<u16, ListFault>
+        requires sized { ⌜ label-sized (now word) ≡ true ⌝ }
+        requires absent { ⌜ number-of (roll-of (now self)) (now word) ≡ None ⌝ }
+        ensures { λ r. ⌜ Appends (now (self .entry)) (now (word .entry)) r (now (self .exit)) ⌝ }
+    {
+        if self.count >= self.array.index().len().min(MAX_WORDS) {
+            return Err(ListFault::NoRoom);
+        }
+        let mut path = [0u16; 129];
+        let size = write_path(word, &mut path);
+        let number = self.count + 1;
+        self.array.enter(&path[0..size], number as u32)?;
+        self.count = number;
+        Ok(number as u16)
+    }
+}
+
+pub impl ReadableList for TrieList as TrieReadable {
+    ghost roll = { roll-of };
+
+    ghost sound = { λ _. Unit {0} };
+
+    fn count(&self) -> u16 {
+        self.count as u16
+    }
+
+    fn find(&self, word: &[u8]) -> Result<Option<u16>, ListFault> {
+        if !has_label_size(word) {
+            return Err(ListFault::WordLength);
+        }
+        Ok(self.number_of(word))
+    }
+
+    fn spell(&self, number: u16, out: &mut [u8]) -> Result<usize, ListFault> {
+        if !self.is_numbered(number) {
+            return Err(ListFault::UnknownWord);
+        }
+        let mut labels = [0u8; 128];
+        let size = self.labels_of(number, &mut labels);
+        output::put(out, 0, &labels[0..size]).ok_or(ListFault::OutputTooShort)
+    }
+}
+
+pub impl GrowingList for TrieList as TrieGrowing {
+    ghost room = { room-of };
+
+    ghost enters = { Placed };
+
+    fn enter(&mut self, word: &[u8]) -> Result<u16, ListFault> {
+        if !has_label_size(word) {
+            return Err(ListFault::WordLength);
+        }
+        if let Some(number) = self.number_of(word) {
+            return Ok(number);
+        }
+        self.append(word)
     }
 }
