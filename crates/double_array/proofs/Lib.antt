@@ -11,3 +11,4 @@ pub mod Growing
 pub mod Refusals
 pub mod Changes
 pub mod Spells
+pub mod Sames

@@ -7,6 +7,7 @@ use Rattle.double_array.specs.Entries.{Entry, Added}
 use Rattle.double_array.specs.Views.{cells-of, index-of}
 use Rattle.double_array.proofs.Fields.{fields, sound-from}
 use Rattle.double_array.proofs.Changes.{entry-sound, entry-added}
+use Rattle.double_array.proofs.Sames.{same-vec, same-array, entry-same, refused-more}
 use Rattle.double_array.proofs.array.DoubleArray.enter.Needs as need
 
 pub ghost-self : need.ghost-self
@@ -33,4 +34,5 @@ returns c =
     record {
       cells = subst₂ (Entry (cells-of d) (index-of d) p u (c .enter .result)) (sym e) (sym f) done;
       paths = subst (λ ys. made (c .enter .result) (λ _. Added (cells-of d) p u ys)) (sym e) (entry-added (cells-of d) (index-of d) p u xs js (sound-from d) (c .enter .result) done);
+      same = refused-more (c .enter .result) _ _ (λ w. same-array _ d (same-vec (d .cells) xs (w .0)) (same-vec (d .index) js (w .1))) (entry-same (cells-of d) (index-of d) p u (c .enter .result) xs js done);
     }

@@ -9,6 +9,7 @@ use Rattle.double_array.specs.Views.{cells-of, index-of}
 use Rattle.double_array.proofs.Fields.{fields, sound-from}
 use Rattle.double_array.proofs.Growing.{tree-parents}
 use Rattle.double_array.proofs.Changes.{taken-sound, taken-removed}
+use Rattle.double_array.proofs.Sames.{same-vec, same-array, taken-same, none-more}
 use Rattle.double_array.proofs.array.DoubleArray.remove.Needs as need
 
 pub take-out-requires : need.take-out-requires
@@ -43,4 +44,5 @@ returns c =
     record {
       cells = subst₂ (Taken (cells-of d) (index-of d) p (c .take-out .result)) (sym e) (sym f) done;
       paths = subst (Removed (cells-of d) p) (sym e) (taken-removed (cells-of d) (index-of d) p xs js (sound-from d) (c .take-out .result) done);
+      same = none-more (c .take-out .result) _ _ (λ w. same-array _ d (same-vec (d .cells) xs (w .0)) (same-vec (d .index) js (w .1))) (taken-same (cells-of d) (index-of d) p (c .take-out .result) xs js done);
     }
