@@ -113,3 +113,7 @@ labels-written (a ∷ b ∷ p) w zero e h labels = absurd (omega arith)
 labels-written (a ∷ b ∷ p) [] (suc n) e h labels = absurd (omega arith)
 labels-written (a ∷ b ∷ p) (c ∷ w) (suc n) e h labels =
     ap (λ (k : ℕ). k ∷ take n w) (labels 0 (omega arith)) ∙ ap (λ (z : List ℕ). (a - 2) ∷ z) (labels-written (b ∷ p) w n (omega arith) (omega arith) (λ k low. labels (suc k) (omega arith)))
+
+-- the slice that was written is the path of the word
+pub written-slice : (size : ℕ) (path word : List ℕ) → take size path ≡ path-of word → take (size - 0) path ≡ path-of word
+written-slice size path word e = ap (λ (k : ℕ). take k path) (let z : size - 0 ≡ size = omega arith in z) ∙ e
