@@ -4,16 +4,16 @@ use mathlib.Core.Bool.{Bool, true, false, cond, _&&_}
 use mathlib.Core.HLevel.{isProp→PathP}
 use mathlib.Core.Logic.{⊎-elim}
 use mathlib.Core.List.{List, [], _∷_, _++_}
-use Prim.Native.Nat.{ℕ, _+_, _-_, _<_, _≤_, min}
+use Prim.Native.Nat.{ℕ, zero, suc, _+_, _-_, _<_, _≤_, min}
 use native.Mathlib.Bridge.{le-prop}
 use native.Mathlib.Omega.{arith}
-use lib.Dec.{ltb, eqb}
+use lib.Dec.{leb, ltb, eqb}
 use lib.ListN.{length, getD}
 use denote.Struct.Props.{props}
 use Rattle.std.specs.Options.{isSome}
 use Rattle.std.specs.declared.option.Option.{Option}
 use Rattle.std.specs.declared.option.Option.the-variants.{Some, None}
-use Rattle.std.proofs.shelf.Tests.{and-from, and-right, lt-ltb, le-ltb, eq-eqb, cond-true, cond-false, cases-lt}
+use Rattle.std.proofs.shelf.Tests.{and-from, and-right, le-leb, lt-ltb, le-ltb, eq-eqb, cond-true, cond-false, cases-lt}
 use Rattle.std.specs.declared.result.Result.{Result}
 use Rattle.std.specs.declared.result.Result.the-variants.{Ok, Err}
 use Rattle.refusal.specs.declared.ListFault.{ListFault}
@@ -31,7 +31,7 @@ use Rattle.cells.specs.Cells.{all-codes}
 use Rattle.cells.specs.Placing.{Arrays, enter}
 use Rattle.cells.specs.Walking.{number-at}
 use Rattle.cells.proofs.Basics.{no-some, some-same}
-use Rattle.cells.proofs.Climbs.{number-held, reach-codes}
+use Rattle.cells.proofs.Climbs.{number-held, number-positive, reach-codes}
 use Rattle.double_array.specs.Entries.{is-path, is-open, is-new, no-place, refusal}
 use Rattle.double_array.specs.Spellings.{is-known, unwritten}
 use Rattle.double_array.specs.Views.{cells-of, index-of}
@@ -39,10 +39,10 @@ use Rattle.double_array.proofs.Fields.{sound-from}
 use Rattle.double_array.proofs.Refusals.{judged-by, short-new}
 use Rattle.trie_list.specs.Paths.{path-of, labels-of, word-path}
 use Rattle.trie_list.specs.Rolls.{path-at, Numbered, Unnumbered, Counted, Worded}
-use Rattle.trie_list.specs.Trie.{roll-of, room-of, Placed, Appends}
+use Rattle.trie_list.specs.Trie.{roll-of, room-of, Walked, Placed, Appends}
 use Rattle.trie_list.specs.declared.list.TrieList.{TrieList}
 use Rattle.trie_list.proofs.Paths.{length-path, word-path-size, path-codes, ends-path}
-use Rattle.trie_list.proofs.Rolls.{Listed, path-number, length-words, getD-words, words-lawful, number-is}
+use Rattle.trie_list.proofs.Rolls.{Listed, path-number, number-path, path-word, length-words, getD-words, words-lawful, number-is}
 use Rattle.trie_list.proofs.Blocks.{unblocked}
 
 pub listed : (s : TrieList) → Listed (cells-of (s .array)) (index-of (s .array)) (s .count)
@@ -61,6 +61,23 @@ length-roll s = length-words (cells-of (s .array)) (index-of (s .array)) (s .cou
 
 pub roll-lawful : (s : TrieList) → Lawful (roll-of s)
 roll-lawful s = words-lawful (cells-of (s .array)) (index-of (s .array)) (s .count) (listed s)
+
+-- walking finds the roll
+pub walked : (s : TrieList) → Walked s
+walked s = record {
+  words = number-is (cells-of (s .array)) (index-of (s .array)) (s .count) (listed s);
+  only = by;
+}
+  where
+  by : (p : List ℕ) (u : ℕ) → number-at (cells-of (s .array)) p ≡ Some u → (numbered (roll-of s) u ≡ true) × (p ≡ path-of (word-of (roll-of s) u))
+  by p zero e = absurd (number-positive (cells-of (s .array)) p e)
+  by p (suc n) e =
+      let cs = cells-of (s .array) in
+      let is = index-of (s .array) in
+      let found = number-path cs is (s .count) (listed s) p n e in
+      let here : suc n - 1 ≡ n = omega arith in
+      (and-from (leb 1 (suc n)) (leb (suc n) (length (roll-of s))) (le-leb 1 (suc n) (omega arith)) (le-leb (suc n) (length (roll-of s)) (omega (arith, found .0, length-roll s))),
+        sym (found .1) ∙ sym (path-word cs is (s .count) (listed s) n (found .0)) ∙ ap path-of (sym (getD-words cs is (s .count) (listed s) n (found .0))) ∙ ap (λ (k : ℕ). path-of (getD (roll-of s) k [])) (sym here))
 
 -- two lists with the same array and the same count
 pub same-list : (s t : TrieList) → s .array ≡ t .array → s .count ≡ t .count → s ≡ t

@@ -11,9 +11,11 @@ use Rattle.std.specs.declared.result.Result.{Result}
 use Rattle.std.specs.declared.result.Result.the-variants.{Ok, Err}
 use Rattle.refusal.specs.declared.ListFault.{ListFault}
 use Rattle.refusal.specs.declared.ListFault.the-variants.{NoRoom}
+use Rattle.lexicon.specs.Rolls.{number-of, numbered, word-of}
 use Rattle.cells.specs.Cells.{at}
 use Rattle.cells.specs.Laws.{cleared}
 use Rattle.cells.specs.Placing.{enter}
+use Rattle.cells.specs.Walking.{number-at}
 use Rattle.double_array.specs.Views.{cells-of, index-of}
 use Rattle.trie_list.specs.Paths.{path-of}
 use Rattle.trie_list.specs.Rolls.{words-of}
@@ -22,6 +24,13 @@ use Rattle.trie_list.specs.declared.list.TrieList.{TrieList}
 -- the words: those of the numbers that are counted, read upward from their leaves
 abbrev pub roll-of : TrieList → List (List ℕ)
 roll-of s = words-of (cells-of (s .array)) (index-of (s .array)) (s .count)
+
+-- walking the cells finds each word of the roll with its number, and nothing else
+pub record Walked (s : TrieList) : Type 0 where
+  -- the path of a word has the number that the roll gives the word, and none where the roll lacks it
+  pub words : (word : List ℕ) → number-at (cells-of (s .array)) (path-of word) ≡ number-of (roll-of s) word
+  -- a path that has a number is the path of that number's word
+  pub only : (p : List ℕ) (number : ℕ) → number-at (cells-of (s .array)) p ≡ Some number → (numbered (roll-of s) number ≡ true) × (p ≡ path-of (word-of (roll-of s) number))
 
 -- room for a word: a number is left, up to 65,535, and the placing rule finds every place of its path
 abbrev pub room-of : TrieList → List ℕ → Bool

@@ -7,7 +7,7 @@ ghost use Rattle.std.specs.Of.Vec.{vec-len};
 ghost use Rattle.std.specs.declared.option.Option.the-variants.{None};
 ghost use Rattle.lexicon.specs.Rolls.{label-sized, number-of, numbered, word-of};
 ghost use Rattle.double_array.specs.Views.{cells-of, index-of};
-ghost use Rattle.trie_list.specs.Trie.{roll-of, room-of, Made, Placed, Appends};
+ghost use Rattle.trie_list.specs.Trie.{roll-of, room-of, Made, Walked, Placed, Appends};
 use super::list::TrieList;
 use super::spelling::write_labels;
 use super::spelling::write_path;
@@ -35,9 +35,10 @@ impl TrieList {
         }
     }
 
-    // The cells, to look at.
+    // The cells, to look at. Walking them finds each word of the roll with its number, and nothing else.
     pub fn cells(&self) -> &[Cell]
-        ensures { λ r. ⌜ now r ≡ cells-of (now (self .entry) .array) ⌝ }
+        ensures cells { λ r. ⌜ now r ≡ cells-of (now (self .entry) .array) ⌝ }
+        ensures walked { λ _. ⌜ Walked (now (self .entry)) ⌝ }
     {
         self.array.cells()
     }
