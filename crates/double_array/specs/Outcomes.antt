@@ -30,6 +30,10 @@ Upward cs =
 abbrev pub Parented : List Cell → Type 0
 Parented cs = (j : ℕ) → parent cs j < length cs
 
+-- there are as many cells and index entries as before
+abbrev pub SameSizes : List Cell → List ℕ → List Cell → List ℕ → Type 0
+SameSizes cs is xs js = (length xs ≡ length cs) × (length js ≡ length is)
+
 -- the path p was taken out and had the number u, or it is not held and nothing changes
 abbrev pub Taken : List Cell → List ℕ → List ℕ → Option ℕ → List Cell → List ℕ → Type 0
 Taken cs is p None xs js = (number-at cs p ≡ None) × (xs ≡ cs) × (js ≡ is)

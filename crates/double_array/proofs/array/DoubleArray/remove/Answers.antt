@@ -40,7 +40,10 @@ returns c =
     subst₂ (λ cs is. Taken cs is p (c .take-out .result) xs js) (c .as-mut-slice .ensures .value) (c .as-mut-slice-2 .ensures .value) (c .take-out .ensures) in
     let e = refilled-is (d .cells) xs (omega arith) in
     let f = refilled-is (d .index) js (omega arith) in
+    let long : length xs ≡ length (cells-of d) = omega (arith, ap length (c .as-mut-slice .ensures .value)) in
+    let wide : length js ≡ length (index-of d) = omega (arith, ap length (c .as-mut-slice-2 .ensures .value)) in
     record {
       cells = subst₂ (Taken (cells-of d) (index-of d) p (c .take-out .result)) (sym e) (sym f) done;
+      sizes = (ap length e ∙ long, ap length f ∙ wide);
       paths = subst (Removed (cells-of d) p) (sym e) (taken-removed (cells-of d) (index-of d) p xs js (sound-from d) (c .take-out .result) done);
     }
