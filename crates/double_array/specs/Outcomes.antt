@@ -9,7 +9,7 @@ use Rattle.std.specs.declared.option.Option.{Option}
 use Rattle.std.specs.declared.option.Option.the-variants.{Some, None}
 use Rattle.cells.specs.declared.Cell.{Cell}
 use Rattle.cells.specs.Cells.{base-of, parent}
-use Rattle.cells.specs.Placing.{Spot, Arrays, place}
+use Rattle.cells.specs.Placing.{place}
 use Rattle.cells.specs.Walking.{number-at}
 use Rattle.cells.specs.Pruning.{take-out}
 use Rattle.cells.specs.Counting.{same-path, beginnings}
