@@ -1,11 +1,11 @@
 -- An entry and a removal leave a sound array, and change one path.
-use mathlib.Core.Path.{_≡_, refl, sym, ap, subst, subst₂, _∙_}
-use mathlib.Core.Bool.{Bool, true, false, cond, _&&_}
+use mathlib.Core.Path.{_≡_, refl, sym, ap, subst₂, _∙_}
+use mathlib.Core.Bool.{true, cond}
 use mathlib.Core.List.{List}
 use mathlib.Core.Logic.{⊎-elim}
 use Prim.Native.Nat.{ℕ, suc, _-_, _<_}
 use native.Mathlib.Omega.{arith}
-use lib.ListN.{length, getD}
+use lib.ListN.{getD}
 use Rattle.std.specs.Vec.{made}
 use Rattle.std.specs.declared.option.Option.{Option}
 use Rattle.std.specs.declared.option.Option.the-variants.{Some, None}
@@ -13,11 +13,10 @@ use Rattle.std.specs.declared.result.Result.{Result}
 use Rattle.std.specs.declared.result.Result.the-variants.{Ok, Err}
 use Rattle.std.proofs.shelf.Tests.{cases-bool, cond-true, cond-false, cond-both, and-parts, eqb-true, ltb-true}
 use Rattle.cells.specs.declared.Cell.{Cell}
-use Rattle.cells.specs.Placing.{Arrays}
 use Rattle.cells.specs.Walking.{number-at}
 use Rattle.cells.specs.Counting.{same-path}
 use Rattle.cells.specs.Invariant.{Sound}
-use Rattle.cells.specs.Laws.{Enters, TakesOut}
+use Rattle.cells.specs.Laws.{Enters}
 use Rattle.cells.proofs.Numbers.{decides-same}
 use Rattle.cells.proofs.Enters.{entering}
 use Rattle.cells.proofs.TakesOut.{taking}

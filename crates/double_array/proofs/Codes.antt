@@ -2,7 +2,7 @@
 use mathlib.Core.Path.{_≡_, refl, sym, ap, subst, _∙_}
 use mathlib.Core.Logic.{⊎-elim}
 use native.Mathlib.Omega.{arith}
-use mathlib.Core.Bool.{Bool, true, false, cond, _&&_}
+use mathlib.Core.Bool.{true, false, cond, _&&_}
 use mathlib.Core.List.{List, [], _∷_, _++_, append-nil}
 use Prim.Native.Nat.{ℕ, zero, suc, _+_, _<_}
 use native.Mathlib.Numerals.{add-one}
@@ -16,7 +16,7 @@ use Rattle.std.specs.Options.{isSome}
 use Rattle.std.proofs.shelf.Lists.{take-more-set}
 use Rattle.std.proofs.shelf.Tests.{cond-true, cond-false, cond-both, and-from, and-right, and-parts, both-ways, cases-eq, lt-ltb, ltb-true}
 use Rattle.cells.specs.declared.Cell.{Cell}
-use Rattle.cells.specs.Cells.{at, nat, base-of, edge, child, codes-below, some-code}
+use Rattle.cells.specs.Cells.{base-of, edge, child, codes-below, some-code}
 
 next : (cs : List Cell) (s n : ℕ) → codes-below cs s (n + 1) ≡ codes-below cs s n ++ cond (ltb 0 n && isSome (child cs s n)) (n ∷ []) []
 unfolding codes-below

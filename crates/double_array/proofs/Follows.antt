@@ -1,8 +1,8 @@
 -- Following a path, one step more, and what is known of the node where it leaves the tree.
 use mathlib.Core.Path.{_≡_, refl, sym, ap, subst, _∙_}
-use mathlib.Core.Bool.{Bool, true, false, cond, _&&_}
+use mathlib.Core.Bool.{true, false, cond}
 use mathlib.Core.List.{List, [], _∷_}
-use Prim.Native.Nat.{ℕ, _+_, _<_, _≤_}
+use Prim.Native.Nat.{ℕ, _+_, _<_}
 use native.Mathlib.Omega.{arith}
 use lib.IntN.{ℤ, pos, negsuc}
 use lib.Signed.{ltZ}
@@ -14,6 +14,7 @@ use Rattle.cells.specs.declared.Cell.{Cell}
 use Rattle.std.proofs.shelf.Tests.{cond-both, cond-false, and-parts, both-ways, eqb-true, ltb-true}
 use Rattle.cells.specs.Cells.{at, nat, parent, eqZ, is-leaf, edge, child, all-codes}
 use Rattle.cells.specs.Placing.{extend, found-or, enter-from}
+use Rattle.cells.proofs.Walks.{none-some}
 use Rattle.double_array.specs.Entries.{Followed, follow, or-stop, extended}
 
 module _ (cs : List Cell) (s : ℕ) (p : List ℕ) (i : ℕ) (within : i < length p) where
@@ -36,9 +37,6 @@ equal-nat (negsuc n) s e = absurd (both-ways false refl e)
 above-none : (z : ℤ) → ltZ (pos 0) z ≡ true → 0 < nat z
 above-none (pos n) e = ltb-true 0 n e
 above-none (negsuc n) e = absurd (both-ways false refl e)
-
-none-some : {A : Type 0} (x : A) → _≡_ {A = Option A} None (Some x) → ⊥
-none-some x e = let z : _≡_ {A = ℕ} 0 1 = cc in omega arith
 
 child-up : (cs : List Cell) (s a t : ℕ) → child cs s a ≡ Some t → (0 < t) × (parent cs t ≡ s)
 child-up cs s a t =

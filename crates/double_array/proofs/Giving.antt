@@ -1,18 +1,18 @@
 -- The placing rule, from what the code has found.
 use mathlib.Core.Path.{_≡_, refl, ap, sym, subst, _∙_}
-use mathlib.Core.Bool.{Bool, true, false, cond, _&&_}
+use mathlib.Core.Bool.{true, false, _&&_}
 use mathlib.Core.List.{List, [], _∷_, _++_}
 use Prim.Native.Nat.{ℕ, _+_, _<_, _≤_}
 use native.Mathlib.Omega.{arith}
-use lib.IntN.{ℤ, pos, negsuc}
+use lib.IntN.{ℤ, pos}
 use lib.ListN.{length, getD, set, take, length-append}
 use Rattle.std.specs.declared.option.Option.{Option}
-use Rattle.std.specs.declared.option.Option.the-variants.{Some, None}
+use Rattle.std.specs.declared.option.Option.the-variants.{Some}
 use Rattle.std.proofs.shelf.Lists.{take-set, take-more-set, length-take-le, getD-append-left, getD-push}
 use Rattle.std.proofs.shelf.Tests.{cond-true, cond-false, and-from, and-left, and-right}
 use Rattle.cells.specs.declared.Cell.{Cell}
-use Rattle.cells.specs.Cells.{at, base-of, is-free, child-codes, some-code}
-use Rattle.cells.specs.Placing.{Spot, AllFree, Lowest, lowest, relocated, index-relocated, placed-at, place}
+use Rattle.cells.specs.Cells.{base-of, is-free, child-codes, some-code}
+use Rattle.cells.specs.Placing.{Spot, Lowest, lowest, placed-at, place}
 use Rattle.cells.proofs.Lowests.{lowest-holds}
 use Rattle.double_array.proofs.Codes.{codes-within}
 

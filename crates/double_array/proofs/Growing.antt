@@ -1,6 +1,6 @@
 -- A path that grows from a node, one cell more, and what is known when it is undone.
 use mathlib.Core.Path.{_≡_, refl, sym, ap, subst, _∙_}
-use mathlib.Core.Bool.{Bool, true, false, cond, _&&_}
+use mathlib.Core.Bool.{true}
 use mathlib.Core.List.{List, [], _∷_, _++_}
 use mathlib.Core.Logic.{⊎-elim, _⊎_, inl, inr}
 use Prim.Native.Nat.{ℕ, zero, suc, _+_, _-_, _<_, _≤_}
@@ -13,12 +13,12 @@ use Rattle.std.specs.declared.option.Option.the-variants.{Some, None}
 use Rattle.std.proofs.shelf.Lists.{at-drop-more, at-drop-all, take-more, length-take-le, getD-take}
 use Rattle.std.proofs.shelf.Tests.{cases-eq, cond-true, eq-eqb, and-parts, and-from}
 use Rattle.cells.specs.declared.Cell.{Cell}
-use Rattle.cells.specs.Cells.{at, base-of, parent, is-leaf, child, child-codes, is-code, all-codes}
-use Rattle.cells.specs.Placing.{Arrays, Spot, place, then-place, grow, extend, freed-up, relocated, undo, moved-back}
-use Rattle.cells.specs.Trees.{In, Edge, Reach, Tree, NotLeaf, Family, Room}
+use Rattle.cells.specs.Cells.{at, base-of, parent, child, child-codes, is-code, all-codes}
+use Rattle.cells.specs.Placing.{Spot, place, then-place, grow, freed-up, relocated, undo}
+use Rattle.cells.specs.Trees.{In, Edge, Reach, Tree, NotLeaf, Family}
 use Rattle.cells.specs.Invariant.{Sound}
 use Rattle.cells.specs.Laws.{Open}
-use Rattle.cells.proofs.Paths.{edge-up, reach-some, reach-used}
+use Rattle.cells.proofs.Paths.{edge-up, reach-some}
 use Rattle.cells.proofs.Counts.{within}
 use Rattle.cells.proofs.Renamings.{up-used}
 use Rattle.cells.proofs.Climbs.{codes-from}
@@ -26,8 +26,8 @@ use Rattle.cells.proofs.Walks.{listing, none-some, edge-child}
 use Rattle.cells.proofs.Families.{in-getD}
 use Rattle.cells.proofs.Returns.{family-after}
 use Rattle.cells.proofs.Sounds.{Tidy, tidy-of, reach-of, inner-is, inner-base}
-use Rattle.cells.proofs.Grows.{Here, There, no-some, some-same, then-some, Grew, grow-well}
-use Rattle.cells.proofs.Undoes.{mid-of, Freed, grow-freed, undoing}
+use Rattle.cells.proofs.Grows.{Here, There, some-same, then-some, grow-well}
+use Rattle.cells.proofs.Undoes.{mid-of, grow-freed, undoing}
 use Rattle.double_array.specs.Outcomes.{Parented}
 use Rattle.double_array.specs.Entries.{extended}
 use Rattle.double_array.proofs.Codes.{codes-within}

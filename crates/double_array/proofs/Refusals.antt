@@ -1,6 +1,6 @@
 -- Which refusal applies, from what the code has found.
 use mathlib.Core.Path.{_≡_, refl, sym, ap, subst, _∙_}
-use mathlib.Core.Bool.{Bool, true, false, cond, not, _&&_}
+use mathlib.Core.Bool.{true, false, cond, not, _&&_}
 use mathlib.Core.List.{List, [], _∷_, _++_}
 use Prim.Native.Nat.{ℕ, _+_, _-_, _<_, _≤_}
 use native.Mathlib.Omega.{arith}
@@ -10,13 +10,12 @@ use lib.ListN.{length, getD, set, length-append}
 use Rattle.std.specs.declared.option.Option.{Option}
 use Rattle.std.specs.declared.option.Option.the-variants.{Some, None}
 use Rattle.std.proofs.shelf.Lists.{getD-push}
-use Rattle.std.proofs.shelf.Tests.{cond-true, cond-false, cond-both, and-from, and-left, and-right, and-parts, not-from-true, not-from-false, ltb-true, le-ltb}
+use Rattle.std.proofs.shelf.Tests.{cond-true, cond-false, and-from, and-left, and-right, and-parts, not-from-true, not-from-false, ltb-true, le-ltb}
 use Rattle.cells.specs.declared.Cell.{Cell}
-use Rattle.cells.specs.Cells.{at, base-of, is-free, is-leaf, child, child-codes, some-code, is-code, all-codes}
-use Rattle.cells.specs.Placing.{Arrays, Spot, Lowest, lowest, placed-at, place, then-place, grow, extend, found-or, enter-from, enter}
+use Rattle.cells.specs.Cells.{base-of, is-free, is-leaf, child, child-codes, some-code, all-codes}
+use Rattle.cells.specs.Placing.{Arrays, Lowest, lowest, placed-at, place, then-place, grow, extend, found-or, enter-from, enter}
 use Rattle.cells.proofs.Lowests.{lowest-holds}
 use Rattle.cells.proofs.Sounds.{short-root, short-child}
-use Rattle.refusal.specs.declared.PathFault.{PathFault}
 use Rattle.refusal.specs.declared.PathFault.the-variants as fault
 use Rattle.double_array.specs.Entries.{Followed, follow, or-stop, is-path, is-open, is-new, no-place, refusal, extended}
 use Rattle.double_array.proofs.Giving.{some-yes, some-no}

@@ -1,18 +1,16 @@
 -- Sound cells can be climbed from each leaf in the index, and that spells the path of its number.
-use mathlib.Core.Path.{_≡_, refl, sym, ap, subst, _∙_}
-use mathlib.Core.Bool.{true, false, cond, _&&_}
+use mathlib.Core.Path.{_≡_, sym, ap, subst, _∙_}
+use mathlib.Core.Bool.{cond}
 use mathlib.Core.List.{List, [], _∷_}
 use mathlib.Core.Logic.{⊎-elim, _⊎_, inl, inr}
-use Prim.Native.Nat.{ℕ, suc, _+_, _-_, _<_, _≤_}
+use Prim.Native.Nat.{ℕ, suc, _+_, _-_, _<_}
 use native.Mathlib.Omega.{arith}
 use lib.ListN.{length, getD}
-use Rattle.std.specs.declared.option.Option.{Option}
 use Rattle.std.specs.declared.option.Option.the-variants.{Some, None}
 use Rattle.std.proofs.shelf.Lists.{getD-past}
 use Rattle.std.proofs.shelf.Tests.{cases-eq, cond-false, and-from, and-left, and-right, and-parts, ltb-true, lt-ltb, le-ltb}
 use Rattle.cells.specs.declared.Cell.{Cell}
 use Rattle.cells.specs.Cells.{base-of, parent}
-use Rattle.cells.specs.Walking.{number-at, path-to}
 use Rattle.cells.specs.Trees.{Edge, Reach, Tree}
 use Rattle.cells.specs.Invariant.{Sound}
 use Rattle.cells.proofs.Paths.{edge-up, reach-some, reach-used}
@@ -22,7 +20,7 @@ use Rattle.cells.proofs.Leaves.{leaf-used}
 use Rattle.cells.proofs.Sounds.{tidy-of, reach-of}
 use Rattle.cells.proofs.Starts.{indexing}
 use Rattle.double_array.specs.Outcomes.{Upward}
-use Rattle.double_array.specs.Spellings.{is-known, path-of, Pointed, Named}
+use Rattle.double_array.specs.Spellings.{is-known, Pointed, Named}
 
 pub none-known : (is : List ℕ) (u : ℕ) → (u ≡ 0) ⊎ (length is < u) → None ≡ cond (is-known is u) (Some (getD is (u - 1) 0)) None
 none-known is u (inl e) = sym (cond-false (is-known is u) _ None (and-left _ _ (le-ltb 0 u (omega arith))))

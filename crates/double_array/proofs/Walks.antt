@@ -1,18 +1,16 @@
 -- One step of a walk.
 use mathlib.Core.Path.{_≡_, refl, sym, ap, _∙_}
-use mathlib.Core.Bool.{Bool, true, false, cond, _&&_}
 use mathlib.Core.List.{List, [], _∷_}
-use Prim.Native.Nat.{ℕ, _+_, _<_, _≤_}
-use lib.IntN.{ℤ, pos}
-use lib.Signed.{ltZ}
+use Prim.Native.Nat.{ℕ, _+_, _<_}
 use native.Mathlib.Omega.{arith}
 use lib.ListN.{length, getD, drop}
 use Rattle.std.specs.declared.option.Option.{Option}
 use Rattle.std.specs.declared.option.Option.the-variants.{Some, None}
-use Rattle.std.proofs.shelf.Lists.{at-drop-more, getD-past}
-use Rattle.std.proofs.shelf.Tests.{cond-both, cond-false, and-parts, and-left, ltb-true}
+use Rattle.std.proofs.shelf.Lists.{at-drop-more}
+use Rattle.std.proofs.shelf.Tests.{cond-both, and-parts, ltb-true}
 use Rattle.cells.specs.declared.Cell.{Cell}
-use Rattle.cells.specs.Cells.{free-cell, at, nat, number, edge, child, all-codes}
+use Rattle.cells.specs.Cells.{at, nat, number, edge, child, all-codes}
+use Rattle.cells.proofs.Sounds.{short-root, short-child}
 use Rattle.cells.specs.Walking.{onward, walk, number-at}
 
 pub child-within : (cs : List Cell) (s a t : ℕ) → child cs s a ≡ Some t → t < length cs
@@ -26,17 +24,11 @@ module _ (cs : List Cell) (s : ℕ) (path : List ℕ) (i : ℕ) (within : i < le
   pub walk-on : (o : Option ℕ) → o ≡ child cs s (getD path i 0) → onward o (λ t. walk cs t (drop (i + 1) path)) ≡ walk cs s (drop i path)
   walk-on o e = ap (λ p. onward p (λ t. walk cs t (drop (i + 1) path))) e ∙ sym (at-drop-more (walk cs s) path i 0 within)
 
-pub childless : (cs : List Cell) (s a : ℕ) → at cs s .base ≡ pos 0 → child cs s a ≡ None
-childless cs s a e = cond-false (edge cs s (nat (at cs s .base) + a)) _ None (and-left _ _ (and-left _ _ (ap (ltZ (pos 0)) e)))
-
 -- fewer than two cells hold no path
-module _ (cs : List Cell) (few : length cs ≤ 1) where
-  rootless : at cs 1 ≡ free-cell
-  rootless = getD-past cs 1 free-cell few
-
-  pub walk-none : (p : List ℕ) → onward (walk cs 1 p) (λ t. number (at cs t .base)) ≡ None
-  walk-none [] = ap (λ c. number (c .base)) rootless
-  walk-none (a ∷ more) = ap (λ o. onward (onward o (λ t. walk cs t more)) (λ t. number (at cs t .base))) (childless cs 1 a (ap (λ c. c .base) rootless))
+module _ (cs : List Cell) (few : length cs < 2) where
+  walk-none : (p : List ℕ) → onward (walk cs 1 p) (λ t. number (at cs t .base)) ≡ None
+  walk-none [] = ap (λ c. number (c .base)) (short-root cs few)
+  walk-none (a ∷ more) = ap (λ o. onward (onward o (λ t. walk cs t more)) (λ t. number (at cs t .base))) (short-child cs few a)
 
   pub number-none : (p : List ℕ) → None ≡ number-at cs p
   number-none p = sym (cond-both (all-codes p) (walk cs 1 p) None (λ o. onward o (λ t. number (at cs t .base)) ≡ None) (λ e. walk-none p) (λ e. refl))

@@ -9,7 +9,7 @@ use Rattle.std.specs.declared.option.Option.{Option}
 use Rattle.std.specs.declared.option.Option.the-variants.{Some, None}
 use Rattle.cells.specs.declared.Cell.{Cell}
 use Rattle.cells.specs.Cells.{base-of, parent}
-use Rattle.cells.specs.Placing.{Spot, Arrays, place}
+use Rattle.cells.specs.Placing.{place}
 use Rattle.cells.specs.Walking.{number-at}
 use Rattle.cells.specs.Pruning.{take-out}
 use Rattle.cells.specs.Counting.{same-path, beginnings}
@@ -29,6 +29,10 @@ Upward cs =
 -- each parent is a cell
 abbrev pub Parented : List Cell → Type 0
 Parented cs = (j : ℕ) → parent cs j < length cs
+
+-- there are as many cells and index entries as before
+abbrev pub SameSizes : List Cell → List ℕ → List Cell → List ℕ → Type 0
+SameSizes cs is xs js = (length xs ≡ length cs) × (length js ≡ length is)
 
 -- the path p was taken out and had the number u, or it is not held and nothing changes
 abbrev pub Taken : List Cell → List ℕ → List ℕ → Option ℕ → List Cell → List ℕ → Type 0

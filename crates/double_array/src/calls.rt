@@ -11,7 +11,7 @@ ghost use Rattle.cells.specs.Counting.{in-use};
 ghost use Rattle.cells.specs.Laws.{cleared};
 ghost use Rattle.std.specs.Options.{Cases as BySome};
 ghost use Rattle.std.specs.Vec.{made, refused};
-ghost use Rattle.double_array.specs.Outcomes.{Taken, Removed, Counted};
+ghost use Rattle.double_array.specs.Outcomes.{SameSizes, Taken, Removed, Counted};
 ghost use Rattle.double_array.specs.Entries.{Entry, Added};
 ghost use Rattle.double_array.specs.Spellings.{Written, Named};
 ghost use Rattle.double_array.specs.Views.{cells-of, index-of};
@@ -53,6 +53,7 @@ impl DoubleArray {
     // Enters the path with the number, or says why it is refused and changes nothing.
     pub fn enter(&mut self, path: &[u16], number: u32) -> Result<(), PathFault>
         ensures cells { λ r. ⌜ Entry (cells-of (now (self .entry))) (index-of (now (self .entry))) (now (path .entry)) number r (cells-of (now (self .exit))) (index-of (now (self .exit))) ⌝ }
+        ensures sizes { λ _. ⌜ SameSizes (cells-of (now (self .entry))) (index-of (now (self .entry))) (cells-of (now (self .exit))) (index-of (now (self .exit))) ⌝ }
         ensures paths { λ r. ⌜ made r (λ _. Added (cells-of (now (self .entry))) (now (path .entry)) number (cells-of (now (self .exit)))) ⌝ }
         ensures same { λ r. ⌜ refused r (λ _. now (self .exit) ≡ now (self .entry)) ⌝ }
     {
@@ -67,6 +68,7 @@ impl DoubleArray {
     // Takes the path out and says its number, or changes nothing where the path is not held.
     pub fn remove(&mut self, path: &[u16]) -> Option<u32>
         ensures cells { λ r. ⌜ Taken (cells-of (now (self .entry))) (index-of (now (self .entry))) (now (path .entry)) r (cells-of (now (self .exit))) (index-of (now (self .exit))) ⌝ }
+        ensures sizes { λ _. ⌜ SameSizes (cells-of (now (self .entry))) (index-of (now (self .entry))) (cells-of (now (self .exit))) (index-of (now (self .exit))) ⌝ }
         ensures paths { λ _. ⌜ Removed (cells-of (now (self .entry))) (now (path .entry)) (cells-of (now (self .exit))) ⌝ }
         ensures same { λ r. ⌜ BySome r (now (self .exit) ≡ now (self .entry)) (λ _. Unit {0}) ⌝ }
     {

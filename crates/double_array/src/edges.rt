@@ -1,7 +1,7 @@
 // Looking at cells: which are free, and which child a code leads to.
 ghost use mathlib.Core.Path.{_≡_};
-ghost use Prim.Native.Nat.{ℕ, _+_, _^_, _<_, _≤_};
-ghost use lib.ListN.{length, getD, take};
+ghost use Prim.Native.Nat.{_+_, _^_, _<_, _≤_};
+ghost use lib.ListN.{length, take};
 ghost use Rattle.std.specs.Options.{Cases};
 ghost use Rattle.cells.specs.Cells.{is-free, is-leaf, child as child-of, child-codes, some-code};
 ghost use Rattle.cells.specs.Walking.{walk as walk-from};

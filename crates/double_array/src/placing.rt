@@ -1,10 +1,9 @@
 // Giving a node a child: the lowest base with room, and the family that moves there.
 ghost use mathlib.Core.Path.{_≡_};
-ghost use mathlib.Core.List.{List};
-ghost use Prim.Native.Nat.{ℕ, _+_, _^_, _<_, _≤_};
-ghost use lib.ListN.{length, getD, take, replicate};
+ghost use Prim.Native.Nat.{ℕ, _+_, _^_, _<_};
+ghost use lib.ListN.{length, getD};
 ghost use Rattle.std.specs.Options.{Cases};
-ghost use Rattle.cells.specs.Cells.{at, nat, base-of, root-cell, free-cell};
+ghost use Rattle.cells.specs.Cells.{at, nat, base-of};
 ghost use Rattle.cells.specs.Placing.{lowest, repointed, moved, moved-list, reindexed, moves, index-moves, relocated, index-relocated};
 ghost use Rattle.cells.specs.Laws.{cleared};
 ghost use Rattle.double_array.specs.Outcomes.{Given};

@@ -1,6 +1,6 @@
 // Taking a path out: its leaf is freed, and each cell above it that has no child left.
 ghost use mathlib.Core.Path.{_≡_};
-ghost use Prim.Native.Nat.{ℕ, _^_, _<_};
+ghost use Prim.Native.Nat.{_^_, _<_};
 ghost use lib.ListN.{length};
 ghost use Rattle.cells.specs.Pruning.{prune as pruned, root-reset};
 ghost use Rattle.double_array.specs.Outcomes.{Parented, Taken};

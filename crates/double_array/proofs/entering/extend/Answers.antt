@@ -1,9 +1,9 @@
-use mathlib.Core.Path.{_≡_, refl, sym, ap, subst, _∙_}
+use mathlib.Core.Path.{_≡_, sym, ap, subst, _∙_}
 use mathlib.Core.List.{List}
 use Prim.Native.Nat.{ℕ, _+_, _-_, _<_}
 use native.Mathlib.Omega.{arith}
 use borrow.Author.Needs.{needs}
-use lib.IntN.{ℤ, pos, negsuc}
+use lib.IntN.{negsuc}
 use lib.ListN.{length, getD, drop, set}
 use mir.Val.{toZ, ofZ}
 use mir.Syntax.{w32}
@@ -14,7 +14,7 @@ use Rattle.cells.specs.declared.Cell.{Cell}
 use Rattle.cells.specs.Cells.{base-of, child-codes}
 use Rattle.cells.specs.Placing.{Spot, Arrays, place, reindexed, freed-up, undo}
 use Rattle.double_array.specs.Outcomes.{Parented}
-use Rattle.double_array.proofs.Growing.{grow-on, step-base, step-more, step-last, grow-next, grow-more, extended-is, Undoable, undoable}
+use Rattle.double_array.proofs.Growing.{grow-on, step-base, step-more, step-last, grow-next, grow-more, extended-is, undoable}
 use Rattle.double_array.proofs.entering.extend.Needs as need
 use Rattle.double_array.proofs.entering.extend.Needs.{then-i-codes, else-i-codes}
 

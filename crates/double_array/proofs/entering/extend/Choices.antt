@@ -1,9 +1,8 @@
 use mathlib.Core.Path.{_≡_}
-use Prim.Native.Nat.{ℕ, _<_}
+use Prim.Native.Nat.{_<_}
 use lib.IntN.{pos}
 use lib.ListN.{length, take, drop}
 use Rattle.std.specs.declared.option.Option.the-variants.{Some}
-use Rattle.cells.specs.Placing.{Spot}
 use Rattle.double_array.proofs.Growing.{grow-on}
 use Rattle.double_array.proofs.entering.extend.Given as given
 

@@ -1,8 +1,8 @@
-use mathlib.Core.Path.{_≡_, refl, sym, ap, subst, _∙_}
+use mathlib.Core.Path.{_≡_, sym, ap, _∙_}
 use native.Mathlib.Omega.{arith}
 use lib.ListN.{length, drop}
 use Rattle.std.proofs.shelf.Lists.{at-drop-all, drop-all}
-use Rattle.double_array.specs.Entries.{Followed, follow}
+use Rattle.double_array.specs.Entries.{follow}
 use Rattle.double_array.proofs.Walks.{child-within}
 use Rattle.double_array.proofs.Follows.{follow-on, follow-stops}
 use Rattle.double_array.proofs.entering.follow.Needs as need

@@ -1,8 +1,8 @@
-use mathlib.Core.Path.{_≡_, sym, ap, _∙_}
-use Prim.Native.Nat.{ℕ, _+_, _-_, _<_}
+use mathlib.Core.Path.{_≡_, ap, _∙_}
+use Prim.Native.Nat.{_+_, _-_}
 use native.Mathlib.Omega.{arith}
 use borrow.Author.Needs.{needs}
-use lib.ListN.{length, set}
+use lib.ListN.{set}
 use Rattle.std.proofs.shelf.Lists.{length-set}
 use Rattle.cells.specs.Cells.{free-cell, parent}
 use Rattle.cells.specs.Placing.{freed-up}

@@ -1,5 +1,5 @@
 use mathlib.Core.Path.{_≡_}
-use Prim.Native.Nat.{ℕ, _-_, _≤_, _+_}
+use Prim.Native.Nat.{_-_, _≤_, _+_}
 use lib.Dec.{ltb}
 use lib.ListN.{length, take}
 use Rattle.std.specs.Iters.{counting}

@@ -1,6 +1,6 @@
 use mathlib.Core.Path.{_≡_}
 use mathlib.Core.List.{[]}
-use Prim.Native.Nat.{ℕ, _-_, _≤_, _<_, _+_}
+use Prim.Native.Nat.{_-_, _≤_, _<_, _+_}
 use lib.ListN.{length}
 use Rattle.cells.specs.Cells.{parent}
 use Rattle.cells.specs.Walking.{climb, path-to}

@@ -1,12 +1,12 @@
-use mathlib.Core.Path.{_≡_, refl, sym, ap, subst, _∙_}
-use mathlib.Core.List.{List, [], _∷_}
-use Prim.Native.Nat.{ℕ, _+_, _-_, _<_, _≤_}
+use mathlib.Core.Path.{_≡_, sym, ap, subst, _∙_}
+use mathlib.Core.List.{List}
+use Prim.Native.Nat.{ℕ, _+_, _-_, _<_}
 use native.Mathlib.Omega.{arith}
 use borrow.Author.Needs.{needs}
 use lib.ListN.{length, drop, set}
 use Rattle.std.proofs.shelf.Lists.{drop-all}
 use Rattle.cells.specs.Cells.{parent, base-of}
-use Rattle.cells.specs.Walking.{climb, path-to}
+use Rattle.cells.specs.Walking.{climb}
 use Rattle.cells.proofs.Counts.{within}
 use Rattle.double_array.proofs.Climbs.{write-not-yet, write-more, write-all}
 use Rattle.double_array.proofs.paths.write_path.Needs as need

@@ -1,5 +1,5 @@
 use mathlib.Core.Path.{_≡_}
-use Prim.Native.Nat.{ℕ, _-_, _≤_, _<_, _+_}
+use Prim.Native.Nat.{_-_, _<_}
 use lib.ListN.{length, drop}
 use Rattle.cells.specs.Cells.{parent}
 use Rattle.cells.specs.Walking.{climb, path-to}

@@ -1,11 +1,9 @@
-use mathlib.Core.Path.{_≡_, sym, ap, subst, _∙_}
+use mathlib.Core.Path.{_≡_, ap, _∙_}
 use native.Mathlib.Omega.{arith}
-use borrow.Author.Needs.{needs}
-use lib.IntN.{ℤ, pos, negsuc, natAbs}
-use lib.Signed.{_<ℤ_}
+use lib.IntN.{natAbs}
 use mir.Val.{toZ, ofZ}
 use mir.Syntax.{w32}
-use Rattle.std.proofs.shelf.Signed.{toZ-ofZ, ints}
+use Rattle.std.proofs.shelf.Signed.{toZ-ofZ}
 use Rattle.double_array.proofs.Moving.{reindexed-past}
 use Rattle.double_array.proofs.placing.note_leaf.Needs as need
 

@@ -1,4 +1,4 @@
-use mathlib.Core.Path.{_≡_, sym, _∙_}
+use mathlib.Core.Path.{sym, _∙_}
 use Rattle.std.proofs.shelf.Lists.{at-drop-all}
 use Rattle.cells.specs.Placing.{moves, index-moves}
 use Rattle.double_array.proofs.Moving.{moves-more, index-moves-more}

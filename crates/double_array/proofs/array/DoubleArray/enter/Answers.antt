@@ -1,4 +1,4 @@
-use mathlib.Core.Path.{_≡_, refl, sym, ap, subst, subst₂, _∙_}
+use mathlib.Core.Path.{_≡_, sym, ap, subst, subst₂, _∙_}
 use native.Mathlib.Omega.{arith}
 use lib.ListN.{length}
 use Rattle.std.specs.Vec.{made}
@@ -31,8 +31,11 @@ returns c =
     subst₂ (λ cs is. Entry cs is p u (c .enter .result) xs js) (c .as-mut-slice .ensures .value) (c .as-mut-slice-2 .ensures .value) (c .enter .ensures) in
     let e = refilled-is (d .cells) xs (omega arith) in
     let f = refilled-is (d .index) js (omega arith) in
+    let long : length xs ≡ length (cells-of d) = omega (arith, ap length (c .as-mut-slice .ensures .value)) in
+    let wide : length js ≡ length (index-of d) = omega (arith, ap length (c .as-mut-slice-2 .ensures .value)) in
     record {
       cells = subst₂ (Entry (cells-of d) (index-of d) p u (c .enter .result)) (sym e) (sym f) done;
+      sizes = (ap length e ∙ long, ap length f ∙ wide);
       paths = subst (λ ys. made (c .enter .result) (λ _. Added (cells-of d) p u ys)) (sym e) (entry-added (cells-of d) (index-of d) p u xs js (sound-from d) (c .enter .result) done);
       same = refused-more (c .enter .result) _ _ (λ w. same-array _ d (same-vec (d .cells) xs (w .0)) (same-vec (d .index) js (w .1))) (entry-same (cells-of d) (index-of d) p u (c .enter .result) xs js done);
     }

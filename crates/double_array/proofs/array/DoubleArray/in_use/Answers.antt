@@ -1,4 +1,4 @@
-use mathlib.Core.Path.{_≡_, ap, _∙_}
+use mathlib.Core.Path.{ap, _∙_}
 use Rattle.cells.specs.Counting.{in-use}
 use Rattle.cells.proofs.Tallies.{counting}
 use Rattle.double_array.specs.Views.{cells-of, index-of}

@@ -1,4 +1,4 @@
-use mathlib.Core.Path.{_≡_, sym, ap, subst, subst₂, _∙_}
+use mathlib.Core.Path.{sym, ap, subst, subst₂}
 use native.Mathlib.Omega.{arith}
 use lib.ListN.{length}
 use Rattle.double_array.specs.Outcomes.{Upward}

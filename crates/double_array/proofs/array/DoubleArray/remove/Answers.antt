@@ -1,4 +1,4 @@
-use mathlib.Core.Path.{_≡_, refl, sym, ap, subst, subst₂, _∙_}
+use mathlib.Core.Path.{_≡_, sym, ap, subst, subst₂, _∙_}
 use Prim.Native.Nat.{_<_}
 use native.Mathlib.Omega.{arith}
 use lib.ListN.{length}
@@ -41,8 +41,11 @@ returns c =
     subst₂ (λ cs is. Taken cs is p (c .take-out .result) xs js) (c .as-mut-slice .ensures .value) (c .as-mut-slice-2 .ensures .value) (c .take-out .ensures) in
     let e = refilled-is (d .cells) xs (omega arith) in
     let f = refilled-is (d .index) js (omega arith) in
+    let long : length xs ≡ length (cells-of d) = omega (arith, ap length (c .as-mut-slice .ensures .value)) in
+    let wide : length js ≡ length (index-of d) = omega (arith, ap length (c .as-mut-slice-2 .ensures .value)) in
     record {
       cells = subst₂ (Taken (cells-of d) (index-of d) p (c .take-out .result)) (sym e) (sym f) done;
+      sizes = (ap length e ∙ long, ap length f ∙ wide);
       paths = subst (Removed (cells-of d) p) (sym e) (taken-removed (cells-of d) (index-of d) p xs js (sound-from d) (c .take-out .result) done);
       same = none-more (c .take-out .result) _ _ (λ w. same-array _ d (same-vec (d .cells) xs (w .0)) (same-vec (d .index) js (w .1))) (taken-same (cells-of d) (index-of d) p (c .take-out .result) xs js done);
     }
