@@ -90,7 +90,7 @@ impl TrieList {
         requires absent { ⌜ number-of (roll-of (now self)) (now word) ≡ None ⌝ }
         ensures { λ r. ⌜ Appends (now (self .entry)) (now (word .entry)) r (now (self .exit)) ⌝ }
     {
-        if self.count >= self.array.index().len().min(MAX_WORDS) {
+        if self.count >= self.index().len().min(MAX_WORDS) {
             return Err(ListFault::NoRoom);
         }
         let mut path = [0u16; 129];
