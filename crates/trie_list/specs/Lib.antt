@@ -1,3 +1,4 @@
 pub mod Paths
 pub mod Rolls
 pub mod Trie
+pub mod Below

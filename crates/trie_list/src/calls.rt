@@ -7,6 +7,8 @@ ghost use Rattle.std.specs.Of.Vec.{vec-len};
 ghost use Rattle.std.specs.declared.option.Option.the-variants.{None};
 ghost use Rattle.lexicon.specs.Rolls.{label-sized, number-of, numbered, word-of};
 ghost use Rattle.double_array.specs.Views.{cells-of, index-of};
+ghost use Rattle.std.specs.Vec.{made};
+ghost use Rattle.trie_list.specs.Below.{below-of, below-answer, below-output, WordsBelow};
 ghost use Rattle.trie_list.specs.Trie.{roll-of, room-of, Made, Walked, Placed, Appends};
 use super::list::TrieList;
 use super::spelling::write_labels;
@@ -18,6 +20,7 @@ use lexicon::ReadableList;
 use lexicon::has_label_size;
 use refusal::ListFault;
 use refusal::ListFromPath;
+use subtrie::numbers_below;
 
 // A list has at most as many words as a 16-bit number counts.
 const MAX_WORDS: usize = 65_535;
@@ -48,6 +51,23 @@ impl TrieList {
         ensures { λ r. ⌜ now r ≡ index-of (now (self .entry) .array) ⌝ }
     {
         self.array.index()
+    }
+
+    // Writes the numbers of the words that begin so into the output, from its start, in the order of
+    // their spellings, and answers how many there are. A beginning of more than 128 labels is refused,
+    // then an output that is too short; nothing is written then.
+    pub fn words_below(&self, beginning: &[u8], out: &mut [u32]) -> Result<usize, ListFault>
+        ensures answer { λ r. ⌜ r ≡ below-answer (now (self .entry)) (now (beginning .entry)) (now (out .entry)) ⌝ }
+        ensures output { λ _. ⌜ now (out .exit) ≡ below-output (now (self .entry)) (now (beginning .entry)) (now (out .entry)) ⌝ }
+        ensures words { λ r. ⌜ made r (λ _. WordsBelow (roll-of (now (self .entry))) (now (beginning .entry)) (below-of (now (self .entry)) (now (beginning .entry)))) ⌝ }
+    {
+        if beginning.len() > 128 {
+            return Err(ListFault::WordLength);
+        }
+        let mut path = [0u16; 129];
+        write_path(beginning, &mut path);
+        let codes = &path[0..beginning.len()];
+        numbers_below(&self.array, codes, out).ok_or(ListFault::OutputTooShort)
     }
 
     // The number of the word, or none.
