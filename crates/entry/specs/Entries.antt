@@ -59,6 +59,11 @@ abbrev pub line-of : List ℕ → Option (List ℕ)
 line-of [] = None
 line-of (b ∷ more) = let read = b ∷ more in cond (eqb (getD read (length more) 0) 10) (Some (take (length more) read)) (Some read)
 
+-- the beginning that a line asks for: what follows a question mark, which is byte 63
+abbrev pub asked-of : List ℕ → Option (List ℕ)
+asked-of [] = None
+asked-of (b ∷ more) = cond (eqb b 63) (Some more) None
+
 -- the reply to an answer
 abbrev pub reply-of : Result Entry Refusal → Reply
 reply-of (Ok entry) = Entered entry

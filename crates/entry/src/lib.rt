@@ -11,7 +11,7 @@ ghost use Rattle.std.specs.declared.option.Option.the-variants.{Some};
 ghost use Rattle.lexicon.specs.Answers.{is-new, EnterLeaves};
 ghost use Rattle.lexicon.specs.Rolls.{numbered, word-of};
 ghost use Rattle.script.specs.Words.{word-sized, spelled};
-ghost use Rattle.entry.specs.Entries.{entry-answer, KeepsNumbers, labels-in, line-of, reply-of, reply-text};
+ghost use Rattle.entry.specs.Entries.{entry-answer, KeepsNumbers, labels-in, line-of, asked-of, reply-of, reply-text};
 use lexicon::GrowingList;
 use lexicon::ReadableList;
 use refusal::Refusal;
@@ -84,6 +84,16 @@ pub fn line_text(read: &[u8]) -> Option<&[u8]>
         [] => None,
         [text @ .., b'\n'] => Some(text),
         _ => Some(read),
+    }
+}
+
+// The beginning that a line asks for, after its question mark; none of a line that has none.
+pub fn beginning_of(line: &[u8]) -> Option<&[u8]>
+    ensures { λ r. ⌜ mapped now r ≡ asked-of (now (line .entry)) ⌝ }
+{
+    match line {
+        [b'?', beginning @ ..] => Some(beginning),
+        _ => None,
     }
 }
 

@@ -14,6 +14,7 @@ use Rattle.std.specs.declared.result.Result.the-variants.{Ok, Err}
 use Rattle.std.proofs.shelf.Lists.{take-take, take-at}
 use Rattle.std.proofs.shelf.Tests.{cond-true, cond-false, le-leb, lt-leb}
 use Rattle.std.specs.Vec.{made}
+use Rattle.refusal.specs.declared.ListFault.{ListFault}
 use Rattle.refusal.specs.declared.ListFault.the-variants.{OutputTooShort}
 use Rattle.lexicon.specs.Rolls.{number-of, numbered, word-of}
 use Rattle.lexicon.proofs.Numbers.{numbered-bounds, number-word}
@@ -117,6 +118,7 @@ module _ (s : TrieList) (b : List ℕ) (m : Members (cells-of (s .array)) (codes
 pub record Told (ns out : List ℕ) (o : Option ℕ) (after : List ℕ) : Type 0 where
   pub answer : okOr o OutputTooShort ≡ cond (fits out 0 ns) (Ok (length ns)) (Err OutputTooShort)
   pub output : after ≡ cond (fits out 0 ns) (written out 0 ns) out
+  pub within : made {Y = ListFault} (okOr o OutputTooShort) (λ n. n ≤ length out)
 
 pub told : (ns out : List ℕ) (o : Option ℕ) (after : List ℕ) → Filled ns out o after → Told ns out o after
 told ns out None after (short, same) =
@@ -124,12 +126,14 @@ told ns out None after (short, same) =
     record {
       answer = sym (cond-false (fits out 0 ns) (Ok (length ns)) (Err OutputTooShort) misfit);
       output = same ∙ sym (cond-false (fits out 0 ns) (written out 0 ns) out misfit);
+      within = tt;
     }
 told ns out (Some n) after (room, count, wrote) =
     let fit : fits out 0 ns ≡ true = le-leb (0 + length ns) (length out) (omega arith) in
     record {
       answer = ap (λ (k : ℕ). Ok k) count ∙ sym (cond-true (fits out 0 ns) (Ok (length ns)) (Err OutputTooShort) fit);
       output = wrote ∙ sym (cond-true (fits out 0 ns) (written out 0 ns) out fit);
+      within = omega arith;
     }
 
 pub made-always : {T E : Type 0} (r : Result T E) (P : Type 0) → P → made r (λ _. P)

@@ -59,6 +59,7 @@ impl TrieList {
     pub fn words_below(&self, beginning: &[u8], out: &mut [u32]) -> Result<usize, ListFault>
         ensures answer { λ r. ⌜ r ≡ below-answer (now (self .entry)) (now (beginning .entry)) (now (out .entry)) ⌝ }
         ensures output { λ _. ⌜ now (out .exit) ≡ below-output (now (self .entry)) (now (beginning .entry)) (now (out .entry)) ⌝ }
+        ensures within { λ r. ⌜ made r (λ n. n ≤ length (now (out .entry))) ⌝ }
         ensures words { λ r. ⌜ made r (λ _. WordsBelow (roll-of (now (self .entry))) (now (beginning .entry)) (below-of (now (self .entry)) (now (beginning .entry)))) ⌝ }
     {
         if beginning.len() > 128 {

@@ -1,9 +1,12 @@
 use mathlib.Core.Path.{_≡_, sym, ap, subst, _∙_}
 use mathlib.Core.Bool.{true}
 use mathlib.Core.List.{List}
-use Prim.Native.Nat.{ℕ}
+use Prim.Native.Nat.{ℕ, _≤_}
 use lib.Dec.{leb}
 use lib.ListN.{length, take}
+use Rattle.std.specs.Vec.{made}
+use Rattle.std.specs.declared.result.Result.{Result}
+use Rattle.refusal.specs.declared.ListFault.{ListFault}
 use Rattle.std.proofs.shelf.Tests.{cond-true, le-leb}
 use Rattle.double_array.specs.Views.{cells-of, index-of}
 use Rattle.subtrie.specs.Below.{Filled, numbers-from}
@@ -29,5 +32,6 @@ returns c =
     record {
       answer = c .ok-or .ensures .value ∙ all .answer ∙ sym (cond-true (leb (length b) 128) _ _ fit);
       output = all .output ∙ sym (cond-true (leb (length b) 128) _ _ fit);
+      within = subst (λ (z : Result ℕ ListFault). made z (λ n. n ≤ length out)) (sym (c .ok-or .ensures .value)) (all .within);
       words = made-always (c .ok-or .result) _ words;
     }
