@@ -8,7 +8,7 @@ ghost use Rattle.std.specs.declared.option.Option.the-variants.{None};
 ghost use Rattle.cells.specs.Cells.{at};
 ghost use Rattle.cells.specs.Walking.{number-at};
 ghost use Rattle.cells.specs.Counting.{in-use};
-ghost use Rattle.cells.specs.Laws.{cleared};
+ghost use Rattle.cells.specs.Laws.{cleared, Walks};
 ghost use Rattle.std.specs.Options.{Cases as BySome};
 ghost use Rattle.std.specs.Vec.{made, refused};
 ghost use Rattle.double_array.specs.Outcomes.{SameSizes, Taken, Removed, Counted};
@@ -43,9 +43,10 @@ impl DoubleArray {
         DoubleArray { cells, index }
     }
 
-    // The number at the end of the path, or none where the path is not held.
+    // The number at the end of the path, or none where the path is not held: walking finds exactly the held paths.
     pub fn number_at(&self, path: &[u16]) -> Option<u32>
-        ensures { λ r. ⌜ r ≡ number-at (cells-of (now (self .entry))) (now (path .entry)) ⌝ }
+        ensures number { λ r. ⌜ r ≡ number-at (cells-of (now (self .entry))) (now (path .entry)) ⌝ }
+        ensures paths { λ _. ⌜ Walks (cells-of (now (self .entry))) (now (path .entry)) ⌝ }
     {
         paths::number_at(self.cells.as_slice(), path)
     }
