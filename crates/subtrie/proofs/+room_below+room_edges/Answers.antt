@@ -49,7 +49,7 @@ room-edges-returns t c =
     let rest = c .match-child .rest in
     let e : length (here cs (c .args .s) (c .args .code) left) + rest ≡ c .args .room =
     elim (c .match-child .came) [
-      room-edges-in-Some·in-Continue-rest w ↦ room-edge cs (c .args .s) (c .args .code) left (c .args .room) (w .in-Some .t) rest (w .in-Some .ensures tt) (ap Some (w .rest-is) ∙ w .in-Continue-rest .ensures tt)
-    | room-edges-in-None w ↦ room-none cs (c .args .s) (c .args .code) left (c .args .room) rest (w .in-None .ensures tt) (w .rest-is)
+      | room-edges-in-Some·in-Continue-rest w ↦ room-edge cs (c .args .s) (c .args .code) left (c .args .room) (w .in-Some .t) rest (w .in-Some .ensures tt) (ap Some (w .rest-is) ∙ w .in-Continue-rest .ensures tt)
+      | room-edges-in-None w ↦ room-none cs (c .args .s) (c .args .code) left (c .args .room) rest (w .in-None .ensures tt) (w .rest-is)
     ] in
     c .room-edges .ensures ∙ room-past cs (c .args .s) (c .args .code) left (c .args .room) rest (omega arith) e

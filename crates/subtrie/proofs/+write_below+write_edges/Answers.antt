@@ -29,16 +29,16 @@ write-below-returns-in-None t c =
     let w = wrote-none (c .args .out .now) (c .args .at) _ e in
     record { end = w .ends; after = w .holds }
 
-pub write-below-write-edges-requires : need.write-below-write-edges-requires
-write-below-write-edges-requires t c κs =
-    let e = ap length (below-edges (c .args .cells .now) (c .args .s) (c .args .left) (c .if-left-eq0 .left) (c .in-None-2 .ensures tt)) in
-    (search needs, (search needs, (search needs, (search needs, (search needs, omega (arith, e, c .pre .room))))))
-
 pub write-below-returns-in-None-2 : need.write-below-returns-in-None-2
 write-below-returns-in-None-2 t c =
     let e = below-edges (c .args .cells .now) (c .args .s) (c .args .left) (c .if-left-eq0 .left) (c .in-None-2 .ensures tt) in
     let w = wrote-as (c .args .out .now) (c .args .at) _ _ _ _ e (record { ends = c .write-edges .ensures .end; holds = c .write-edges .ensures .after }) in
     record { end = w .ends; after = w .holds }
+
+pub write-below-write-edges-requires : need.write-below-write-edges-requires
+write-below-write-edges-requires t c κs =
+    let e = ap length (below-edges (c .args .cells .now) (c .args .s) (c .args .left) (c .if-left-eq0 .left) (c .in-None-2 .ensures tt)) in
+    (search needs, (search needs, (search needs, (search needs, (search needs, omega (arith, e, c .pre .room))))))
 
 pub write-edges-returns-then-code-gt257 : need.write-edges-returns-then-code-gt257
 write-edges-returns-then-code-gt257 t c =
@@ -59,8 +59,8 @@ write-edges-write-edges-requires t c κs =
     let none = no-edge (c .args .cells .now) (c .args .s) (c .args .code) (c .args .left - 1) (c .args .out .now) (c .args .at) (c .match-child .next) (c .match-child .out) in
     let w : Wrote (c .args .out .now) (c .args .at) (here (c .args .cells .now) (c .args .s) (c .args .code) (c .args .left - 1)) (c .match-child .next) (c .match-child .out) =
     elim (c .match-child .came) [
-      write-edges-in-Some w ↦ edge (w .in-Some .t) _ _ (w .in-Some .ensures tt) (w .next-is) (w .out-is) (record { ends = w .write-below-next .ensures .end; holds = w .write-below-next .ensures .after })
-    | write-edges-in-None w ↦ none (w .in-None .ensures tt) (w .next-is) (w .out-is)
+      | write-edges-in-Some w ↦ edge (w .in-Some .t) _ _ (w .in-Some .ensures tt) (w .next-is) (w .out-is) (record { ends = w .write-below-next .ensures .end; holds = w .write-below-next .ensures .after })
+      | write-edges-in-None w ↦ none (w .in-None .ensures tt) (w .next-is) (w .out-is)
     ] in
     (search needs, (search needs, (search needs, (search needs, (search needs, omega (arith, e, w .ends, c .match-child .kept .out, c .pre .room))))))
 
@@ -73,8 +73,8 @@ write-edges-returns t c =
     let none = no-edge cs (c .args .s) (c .args .code) left (c .args .out .now) (c .args .at) (c .match-child .next) (c .match-child .out) in
     let first : Wrote (c .args .out .now) (c .args .at) (here cs (c .args .s) (c .args .code) left) (c .match-child .next) (c .match-child .out) =
     elim (c .match-child .came) [
-      write-edges-in-Some w ↦ edge (w .in-Some .t) _ _ (w .in-Some .ensures tt) (w .next-is) (w .out-is) (record { ends = w .write-below-next .ensures .end; holds = w .write-below-next .ensures .after })
-    | write-edges-in-None w ↦ none (w .in-None .ensures tt) (w .next-is) (w .out-is)
+      | write-edges-in-Some w ↦ edge (w .in-Some .t) _ _ (w .in-Some .ensures tt) (w .next-is) (w .out-is) (record { ends = w .write-below-next .ensures .end; holds = w .write-below-next .ensures .after })
+      | write-edges-in-None w ↦ none (w .in-None .ensures tt) (w .next-is) (w .out-is)
     ] in
     let more = wrote-more (c .args .out .now) (c .args .at) (here cs (c .args .s) (c .args .code) left) (past cs (c .args .s) (c .args .code) left) (c .match-child .next) (c .write-edges .result) (c .match-child .out) (c .write-edges .last .out)
     (omega (arith, e, c .pre .room)) first (record { ends = c .write-edges .ensures .end; holds = c .write-edges .ensures .after }) in
