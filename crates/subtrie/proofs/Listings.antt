@@ -1,9 +1,9 @@
 -- The numbers below a beginning are those of the held paths that begin so.
 use mathlib.Core.Path.{_≡_, refl, sym, ap, subst, subst₂, _∙_}
-use mathlib.Core.Bool.{Bool, true, cond}
+use mathlib.Core.Bool.{true}
 use mathlib.Core.List.{List, [], _∷_, _++_, map}
-use mathlib.Core.Logic.{⊎-elim, _⊎_, inl, inr}
-use Prim.Native.Nat.{ℕ, zero, suc, _+_, _-_, _<_, _≤_}
+use mathlib.Core.Logic.{⊎-elim}
+use Prim.Native.Nat.{ℕ, _<_, _≤_}
 use native.Mathlib.Omega.{arith}
 use lib.ListN.{length, getD, length-append}
 use Rattle.std.specs.declared.option.Option.{Option}
@@ -11,7 +11,7 @@ use Rattle.std.specs.declared.option.Option.the-variants.{Some, None}
 use Rattle.std.proofs.shelf.Lists.{length-map, getD-map}
 use Rattle.std.proofs.shelf.Tests.{cases-lt, cond-true, cond-both, and-parts, and-from}
 use Rattle.cells.specs.declared.Cell.{Cell}
-use Rattle.cells.specs.Cells.{at, number, child, is-code, all-codes}
+use Rattle.cells.specs.Cells.{at, number, child, all-codes}
 use Rattle.cells.specs.Trees.{In}
 use Rattle.cells.specs.Walking.{onward, walk, cell-at, number-at}
 use Rattle.cells.specs.Invariant.{Sound}
@@ -21,12 +21,12 @@ use Rattle.cells.proofs.Climbs.{codes-from, code-is}
 use Rattle.cells.proofs.Starts.{climbing}
 use Rattle.double_array.proofs.Walks.{number-none}
 use Rattle.double_array.proofs.Spells.{named-of}
-use Rattle.subtrie.specs.Below.{at-found, edge-numbers, numbers-below, numbers-from}
-use Rattle.subtrie.specs.Order.{Before, Rising}
+use Rattle.subtrie.specs.Below.{at-found, numbers-below, numbers-from}
+use Rattle.subtrie.specs.Order.{Before}
 use Rattle.subtrie.specs.Laws.{Listed, Members, Ordered}
 use Rattle.subtrie.proofs.Members.{in-map, map-in, map-through}
 use Rattle.subtrie.proofs.Orders.{before-front, before-self, rising-map, rising-at}
-use Rattle.subtrie.proofs.Paths.{number-on, Onward, below}
+use Rattle.subtrie.proofs.Paths.{number-on, below}
 
 -- codes
 codes-to : (p : List ℕ) → Codes p → all-codes p ≡ true

@@ -32,14 +32,20 @@ module _ (cs : List Cell) (s : ℕ) where
 
 module _ (f : ℕ → List ℕ) (cs : List Cell) (s : ℕ) where
   -- past the last code
-  pub edges-end : (code : ℕ) → 257 < code → edge-numbers f cs s (258 - code) ≡ []
+  pub edges-end : (code : ℕ) → 258 ≤ code → edge-numbers f cs s (258 - code) ≡ []
   unfolding edge-numbers
   edges-end code h = let z : 258 - code ≡ 0 = omega arith in ap (edge-numbers f cs s) z
 
   -- the edge by one code, and those past it
-  pub edges-more : (code : ℕ) → code ≤ 257 → edge-numbers f cs s (258 - code) ≡ at-found f (child cs s code) ++ edge-numbers f cs s (258 - (code + 1))
+  edges-more : (code : ℕ) → code < 258 → edge-numbers f cs s (258 - code) ≡ at-found f (child cs s code) ++ edge-numbers f cs s (258 - (code + 1))
   unfolding edge-numbers
   edges-more code h =
       let up : 258 - code ≡ suc (258 - (code + 1)) = omega arith in
       let back : 258 - suc (258 - (code + 1)) ≡ code = omega arith in
       ap (edge-numbers f cs s) up ∙ ap (λ a. at-found f (child cs s a) ++ edge-numbers f cs s (258 - (code + 1))) back
+
+  pub edge-some : (code t : ℕ) → code < 258 → Some t ≡ child cs s code → edge-numbers f cs s (258 - code) ≡ f t ++ edge-numbers f cs s (258 - (code + 1))
+  edge-some code t h e = edges-more code h ∙ ap (λ o. at-found f o ++ edge-numbers f cs s (258 - (code + 1))) (sym e)
+
+  pub edge-none : (code : ℕ) → code < 258 → None ≡ child cs s code → edge-numbers f cs s (258 - code) ≡ edge-numbers f cs s (258 - (code + 1))
+  edge-none code h e = edges-more code h ∙ ap (λ o. at-found f o ++ edge-numbers f cs s (258 - (code + 1))) (sym e)

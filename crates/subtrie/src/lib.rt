@@ -2,105 +2,29 @@
 //
 // This crate reads the cells of a double array by two walks that call each other, one over cells
 // and one over edges. It knows nothing of words, and it changes no cell.
+mod room;
+mod writing;
+
 ghost use mathlib.Core.Path.{_≡_};
-ghost use Prim.Native.Nat.{ℕ, _+_, _-_, _^_, _<_, _≤_};
+ghost use Prim.Native.Nat.{_^_, _<_};
 ghost use lib.ListN.{length};
-ghost use Rattle.output.specs.Written.{written};
-ghost use Rattle.cells.specs.Cells.{at as cell, number};
+ghost use Rattle.cells.specs.Cells.{at, number};
 ghost use Rattle.double_array.specs.Views.{cells-of, index-of};
-ghost use Rattle.subtrie.specs.Below.{edge-numbers, numbers-below, numbers-from, room-after, Filled};
+ghost use Rattle.subtrie.specs.Below.{numbers-from, Filled};
 ghost use Rattle.subtrie.specs.Laws.{Listed, Members, Ordered};
 use cells::Cell;
 use double_array::DoubleArray;
 use double_array::cell_at;
-use double_array::child;
 use double_array::leaf_number;
+use room::room_below;
+use writing::write_below;
 
 // The number of the cell `s`, if it is a leaf.
 fn leaf_at(cells: &[Cell], s: usize) -> Option<u32>
     requires { ⌜ s < length (now cells) ⌝ }
-    ensures { λ r. ⌜ r ≡ number (cell (now (cells .entry)) s .base) ⌝ }
+    ensures { λ r. ⌜ r ≡ number (at (now (cells .entry)) s .base) ⌝ }
 {
     leaf_number(cells[s].base)
-}
-
-// How many of `room` places are left after the numbers below the cell `s`, by at most `left` codes,
-// or none where they are too few.
-fn room_below(cells: &[Cell], s: usize, left: usize, room: usize) -> Option<usize>
-    requires within { ⌜ s < length (now cells) ⌝ }
-    requires sized { ⌜ length (now cells) < 2 ^ 31 ⌝ }
-    ensures { λ r. ⌜ r ≡ room-after room (numbers-below left (now (cells .entry)) s) ⌝ }
-{
-    match leaf_at(cells, s) {
-        Some(_) if room == 0 => None,
-        Some(_) => Some(room - 1),
-        None if left == 0 => Some(room),
-        None => room_edges(cells, s, 1, left, room),
-    }
-}
-
-// The same for the edges of `s` by the codes from `code` up.
-fn room_edges(cells: &[Cell], s: usize, code: u16, left: usize, room: usize) -> Option<usize>
-    requires within { ⌜ s < length (now cells) ⌝ }
-    requires sized { ⌜ length (now cells) < 2 ^ 31 ⌝ }
-    requires some { ⌜ 0 < left ⌝ }
-    requires codes { ⌜ code ≤ 258 ⌝ }
-    ensures { λ r. ⌜ r ≡ room-after room (edge-numbers (numbers-below (left - 1) (now (cells .entry))) (now (cells .entry)) s (258 - code)) ⌝ }
-{
-    if code > 257 {
-        return Some(room);
-    }
-    let rest = match child(cells, s, code) {
-        Some(t) => room_below(cells, t, left - 1, room)?,
-        None => room,
-    };
-    room_edges(cells, s, code + 1, left, rest)
-}
-
-// Writes the numbers below the cell `s`, by at most `left` codes, into `out` from `at` on, and
-// answers where they end.
-fn write_below(cells: &[Cell], s: usize, left: usize, out: &mut [u32], at: usize) -> usize
-    requires within { ⌜ s < length (now cells) ⌝ }
-    requires sized { ⌜ length (now cells) < 2 ^ 31 ⌝ }
-    requires room { ⌜ at + length (numbers-below left (now cells) s) ≤ length (now out) ⌝ }
-    ensures end { λ r. ⌜ r ≡ at + length (numbers-below left (now (cells .entry)) s) ⌝ }
-    ensures after { λ _. ⌜ now (out .exit) ≡ written (now (out .entry)) at (numbers-below left (now (cells .entry)) s) ⌝ }
-{
-    match leaf_at(cells, s) {
-        Some(n) => {
-            out[at] = n;
-            at + 1
-        }
-        None if left == 0 => at,
-        None => write_edges(cells, s, 1, left, out, at),
-    }
-}
-
-// The same for the edges of `s` by the codes from `code` up.
-fn write_edges(
-    cells: &[Cell],
-    s: usize,
-    code: u16,
-    left: usize,
-    out: &mut [u32],
-    at: usize,
-) -> usize
-    requires within { ⌜ s < length (now cells) ⌝ }
-    requires sized { ⌜ length (now cells) < 2 ^ 31 ⌝ }
-    requires some { ⌜ 0 < left ⌝ }
-    requires codes { ⌜ code ≤ 258 ⌝ }
-    requires room { ⌜ at + length (edge-numbers (numbers-below (left - 1) (now cells)) (now cells) s (258 - code)) ≤ length (now out) ⌝ }
-    ensures end { λ r. ⌜ r ≡ at + length (edge-numbers (numbers-below (left - 1) (now (cells .entry))) (now (cells .entry)) s (258 - code)) ⌝ }
-    ensures after { λ _. ⌜ now (out .exit) ≡ written (now (out .entry)) at (edge-numbers (numbers-below (left - 1) (now (cells .entry))) (now (cells .entry)) s (258 - code)) ⌝ }
-{
-    if code > 257 {
-        return at;
-    }
-    let next = match child(cells, s, code) {
-        Some(t) => write_below(cells, t, left - 1, out, at),
-        None => at,
-    };
-    write_edges(cells, s, code + 1, left, out, next)
 }
 
 // Writes the numbers below the beginning into `out` from its start and answers how many, or writes
