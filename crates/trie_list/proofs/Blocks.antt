@@ -76,20 +76,20 @@ module _ (cs : List Cell) (is : List ℕ) (count : ℕ) (l : Listed cs is count)
       let on = extends cs (tidy .tree) (tidy .whole) (length cs) (turned p []) t (omega arith) r root in
       below p ends none (on .0) (on .1) (on .2)
     where
-    root-apart-path : (p : List ℕ) → ends-once p ≡ true → turned p [] ≡ [] → ⊥
-    root-apart-path p ends e =
-        let empty : p ≡ [] = sym (turned-turned p [] [] ∙ append-nil p) ∙ ap (λ (z : List ℕ). turned z []) e in
-        both-ways false refl (ap ends-once (sym empty) ∙ ends)
+      root-apart-path : (p : List ℕ) → ends-once p ≡ true → turned p [] ≡ [] → ⊥
+      root-apart-path p ends e =
+          let empty : p ≡ [] = sym (turned-turned p [] [] ∙ append-nil p) ∙ ap (λ (z : List ℕ). turned z []) e in
+          both-ways false refl (ap ends-once (sym empty) ∙ ends)
 
-    below : (p : List ℕ) → ends-once p ≡ true → number-at cs p ≡ None → (q : List ℕ) (n : ℕ) → Held cs (q ++ turned p []) n → ⊥
-    below p ends none q n held =
-        let path = turned (q ++ turned p []) [] in
-        let there : Held cs (turned path []) n = subst (λ (z : List ℕ). Held cs z n) (sym (turned-turned (q ++ turned p []) [] [] ∙ append-nil (q ++ turned p []))) held in
-        further p ends none (turned q []) n (subst (λ (z : List ℕ). Held cs (turned z []) n) (turned-more q p) there)
-      where
-      further : (p : List ℕ) → ends-once p ≡ true → number-at cs p ≡ None → (q : List ℕ) (n : ℕ) → Held cs (turned (p ++ q) []) n → ⊥
-      further p ends none [] n held = no-some (suc n) (sym none ∙ held-number cs p n (subst (λ (z : List ℕ). Held cs (turned z []) n) (append-nil p) held))
-      further p ends none (a ∷ q) n held = ends-alone p a q ends (held-ends (p ++ a ∷ q) n held)
+      below : (p : List ℕ) → ends-once p ≡ true → number-at cs p ≡ None → (q : List ℕ) (n : ℕ) → Held cs (q ++ turned p []) n → ⊥
+      below p ends none q n held =
+          let path = turned (q ++ turned p []) [] in
+          let there : Held cs (turned path []) n = subst (λ (z : List ℕ). Held cs z n) (sym (turned-turned (q ++ turned p []) [] [] ∙ append-nil (q ++ turned p []))) held in
+          further p ends none (turned q []) n (subst (λ (z : List ℕ). Held cs (turned z []) n) (turned-more q p) there)
+        where
+          further : (p : List ℕ) → ends-once p ≡ true → number-at cs p ≡ None → (q : List ℕ) (n : ℕ) → Held cs (turned (p ++ q) []) n → ⊥
+          further p ends none [] n held = no-some (suc n) (sym none ∙ held-number cs p n (subst (λ (z : List ℕ). Held cs (turned z []) n) (append-nil p) held))
+          further p ends none (a ∷ q) n held = ends-alone p a q ends (held-ends (p ++ a ∷ q) n held)
 
   -- so the path of a new word leaves the tree before its end, at a node that is no leaf
   pub unblocked : 1 < length cs → (p : List ℕ) → all-codes p ≡ true → ends-once p ≡ true → number-at cs p ≡ None → is-new cs p ≡ true
@@ -97,22 +97,22 @@ module _ (cs : List Cell) (is : List ℕ) (count : ℕ) (l : Listed cs is count)
       let g = gone cs [] p 1 (codes-from p codes) refl in
       left (follow cs 1 p) g
     where
-    rest-some : (f : Followed) → Gone cs [] p f → (r : List ℕ) → f .rest ≡ r → some-code r ≡ true
-    rest-some f g [] e =
-        let all : p ≡ g .front = g .whole ∙ ap (λ (z : List ℕ). g .front ++ z) e ∙ append-nil (g .front) in
-        absurd (no-cell long p (f .node) ends none (subst (λ (z : List ℕ). Reach cs (turned z []) (f .node)) (sym all) (g .reach)))
-    rest-some f g (a ∷ r) e = refl
+      rest-some : (f : Followed) → Gone cs [] p f → (r : List ℕ) → f .rest ≡ r → some-code r ≡ true
+      rest-some f g [] e =
+          let all : p ≡ g .front = g .whole ∙ ap (λ (z : List ℕ). g .front ++ z) e ∙ append-nil (g .front) in
+          absurd (no-cell long p (f .node) ends none (subst (λ (z : List ℕ). Reach cs (turned z []) (f .node)) (sym all) (g .reach)))
+      rest-some f g (a ∷ r) e = refl
 
-    not-leaf-at : (f : Followed) → Gone cs [] p f → (r : List ℕ) → f .rest ≡ r → some-code r ≡ true → is-leaf cs (f .node) ≡ true → ⊥
-    not-leaf-at f g [] e some leaf = both-ways false refl some
-    not-leaf-at f g (a ∷ r) e some leaf =
-        let b = leaf-is (at cs (f .node) .base) leaf in
-        let held : Held cs (turned (g .front) []) (b .0) = (f .node, g .reach, b .1) in
-        let whole : p ≡ g .front ++ a ∷ r = g .whole ∙ ap (λ (z : List ℕ). g .front ++ z) e in
-        ends-alone (g .front) a r (held-ends (g .front) (b .0) held) (ap ends-once (sym whole) ∙ ends)
+      not-leaf-at : (f : Followed) → Gone cs [] p f → (r : List ℕ) → f .rest ≡ r → some-code r ≡ true → is-leaf cs (f .node) ≡ true → ⊥
+      not-leaf-at f g [] e some leaf = both-ways false refl some
+      not-leaf-at f g (a ∷ r) e some leaf =
+          let b = leaf-is (at cs (f .node) .base) leaf in
+          let held : Held cs (turned (g .front) []) (b .0) = (f .node, g .reach, b .1) in
+          let whole : p ≡ g .front ++ a ∷ r = g .whole ∙ ap (λ (z : List ℕ). g .front ++ z) e in
+          ends-alone (g .front) a r (held-ends (g .front) (b .0) held) (ap ends-once (sym whole) ∙ ends)
 
-    left : (f : Followed) → Gone cs [] p f → (some-code (f .rest) && not (is-leaf cs (f .node))) ≡ true
-    left f g =
-        let some = rest-some f g (f .rest) refl in
-        and-from (some-code (f .rest)) (not (is-leaf cs (f .node))) some
-        (⊎-elim (λ leaf. absurd (not-leaf-at f g (f .rest) refl some leaf)) (λ inner. not-from-false (is-leaf cs (f .node)) inner) (cases-bool (is-leaf cs (f .node))))
+      left : (f : Followed) → Gone cs [] p f → (some-code (f .rest) && not (is-leaf cs (f .node))) ≡ true
+      left f g =
+          let some = rest-some f g (f .rest) refl in
+          and-from (some-code (f .rest)) (not (is-leaf cs (f .node))) some
+          (⊎-elim (λ leaf. absurd (not-leaf-at f g (f .rest) refl some leaf)) (λ inner. not-from-false (is-leaf cs (f .node)) inner) (cases-bool (is-leaf cs (f .node))))

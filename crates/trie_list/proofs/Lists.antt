@@ -69,15 +69,16 @@ walked s = record {
   only = by;
 }
   where
-  by : (p : List ℕ) (u : ℕ) → number-at (cells-of (s .array)) p ≡ Some u → (numbered (roll-of s) u ≡ true) × (p ≡ path-of (word-of (roll-of s) u))
-  by p zero e = absurd (number-positive (cells-of (s .array)) p e)
-  by p (suc n) e =
-      let cs = cells-of (s .array) in
-      let is = index-of (s .array) in
-      let found = number-path cs is (s .count) (listed s) p n e in
-      let here : suc n - 1 ≡ n = omega arith in
-      (and-from (leb 1 (suc n)) (leb (suc n) (length (roll-of s))) (le-leb 1 (suc n) (omega arith)) (le-leb (suc n) (length (roll-of s)) (omega (arith, found .0, length-roll s))),
-        sym (found .1) ∙ sym (path-word cs is (s .count) (listed s) n (found .0)) ∙ ap path-of (sym (getD-words cs is (s .count) (listed s) n (found .0))) ∙ ap (λ (k : ℕ). path-of (getD (roll-of s) k [])) (sym here))
+    by : (p : List ℕ) (u : ℕ) → number-at (cells-of (s .array)) p ≡ Some u → (numbered (roll-of s) u ≡ true) × (p ≡ path-of (word-of (roll-of s) u))
+    by p zero e = absurd (number-positive (cells-of (s .array)) p e)
+    by p (suc n) e =
+        let cs = cells-of (s .array) in
+        let is = index-of (s .array) in
+        let found = number-path cs is (s .count) (listed s) p n e in
+        let here : suc n - 1 ≡ n = omega arith in (
+          and-from (leb 1 (suc n)) (leb (suc n) (length (roll-of s))) (le-leb 1 (suc n) (omega arith)) (le-leb (suc n) (length (roll-of s)) (omega (arith, found .0, length-roll s))),
+          sym (found .1) ∙ sym (path-word cs is (s .count) (listed s) n (found .0)) ∙ ap path-of (sym (getD-words cs is (s .count) (listed s) n (found .0))) ∙ ap (λ (k : ℕ). path-of (getD (roll-of s) k [])) (sym here),
+        )
 
 -- two lists with the same array and the same count
 pub same-list : (s t : TrieList) → s .array ≡ t .array → s .count ≡ t .count → s ≡ t
@@ -122,7 +123,7 @@ module _ (s : TrieList) (u : ℕ) (some : numbered (roll-of s) u ≡ true) where
 
 -- a new word's path with the next number is refused only for want of a place
 module _ (s : TrieList) (w : List ℕ) (sized : label-sized w ≡ true) (absent : number-of (roll-of s) w ≡ None) (bytes : (k : ℕ) → getD w k 0 < 256)
-  (left : s .count < min (length (index-of (s .array))) 65535) where
+    (left : s .count < min (length (index-of (s .array))) 65535) where
   none-held : number-at (cells-of (s .array)) (path-of w) ≡ None
   none-held = number-is (cells-of (s .array)) (index-of (s .array)) (s .count) (listed s) w ∙ absent
 
@@ -168,9 +169,9 @@ module _ (s : TrieList) (w : List ℕ) (sized : label-sized w ≡ true) (absent 
   pub refused-place : (e : PathFault) → refusal (cells-of (s .array)) (index-of (s .array)) (path-of w) (s .count + 1) ≡ Some e → (e ≡ NoPlace) × (room-of s w ≡ false)
   refused-place e said = by (enter (cells-of (s .array)) (index-of (s .array)) (path-of w) (s .count)) refl
     where
-    by : (o : Option Arrays) → enter (cells-of (s .array)) (index-of (s .array)) (path-of w) (s .count) ≡ o → (e ≡ NoPlace) × (room-of s w ≡ false)
-    by None none = (some-same e NoPlace (sym said ∙ judged ∙ ap no-place none), room-no none)
-    by (Some xs) did = absurd (no-some e (sym (judged ∙ ap no-place did) ∙ said))
+      by : (o : Option Arrays) → enter (cells-of (s .array)) (index-of (s .array)) (path-of w) (s .count) ≡ o → (e ≡ NoPlace) × (room-of s w ≡ false)
+      by None none = (some-same e NoPlace (sym said ∙ judged ∙ ap no-place none), room-no none)
+      by (Some xs) did = absurd (no-some e (sym (judged ∙ ap no-place did) ∙ said))
 
   -- an entry of the slice that was written, with the next number, is one of the word's path
   pub entered-as : (slice : List ℕ) (xs : Arrays) → slice ≡ path-of w → enter (cells-of (s .array)) (index-of (s .array)) slice (s .count + 1 - 1) ≡ Some xs

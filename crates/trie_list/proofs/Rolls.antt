@@ -77,39 +77,39 @@ module _ (cs : List Cell) (is : List ℕ) (count : ℕ) (l : Listed cs is count)
     few = omega (arith, length-words, l .few);
     sized = λ k h. let low : k < count = omega (arith, length-words) in ap label-sized (getD-words k low) ∙ word-path-parts (path-at cs is k) (l .worded k low) .1;
     apart = λ i j alike.
-      let low : i < count = omega (arith, length-words, alike .0) in
-      let high : j < count = omega (arith, length-words, alike .1) in
-      let words : word-at cs is i ≡ word-at cs is j = sym (getD-words i low) ∙ alike .2 ∙ getD-words j high in
-      let paths : path-at cs is i ≡ path-at cs is j = sym (path-word i low) ∙ ap path-of words ∙ path-word j high in
-      let same : suc i ≡ suc j = some-same (suc i) (suc j) (sym (path-number i low) ∙ ap (number-at cs) paths ∙ path-number j high) in
-      omega arith;
+        let low : i < count = omega (arith, length-words, alike .0) in
+        let high : j < count = omega (arith, length-words, alike .1) in
+        let words : word-at cs is i ≡ word-at cs is j = sym (getD-words i low) ∙ alike .2 ∙ getD-words j high in
+        let paths : path-at cs is i ≡ path-at cs is j = sym (path-word i low) ∙ ap path-of words ∙ path-word j high in
+        let same : suc i ≡ suc j = some-same (suc i) (suc j) (sym (path-number i low) ∙ ap (number-at cs) paths ∙ path-number j high) in
+        omega arith;
   }
 
   -- walking the path of a word finds the number that the roll gives it, and none where the roll lacks it
   pub number-is : (w : List ℕ) → number-at cs (path-of w) ≡ number-of (words-of cs is count) w
   number-is w = by (number-at cs (path-of w)) (number-of (words-of cs is count) w) refl refl
     where
-    held : (n : ℕ) → number-at cs (path-of w) ≡ Some (suc n) → number-of (words-of cs is count) w ≡ Some (suc n)
-    held n e =
-        let found = number-path (path-of w) n e in
-        let long = length-words in
-        let here : word-of (words-of cs is count) (suc n) ≡ w = word-next (words-of cs is count) n ∙ getD-words n (found .0) ∙ ap labels-of (found .1) ∙ labels-path w in
-        subst (λ (v : List ℕ). number-of (words-of cs is count) v ≡ Some (suc n)) here (number-word (words-of cs is count) (suc n) words-lawful (omega arith) (omega (arith, found .0)))
+      held : (n : ℕ) → number-at cs (path-of w) ≡ Some (suc n) → number-of (words-of cs is count) w ≡ Some (suc n)
+      held n e =
+          let found = number-path (path-of w) n e in
+          let long = length-words in
+          let here : word-of (words-of cs is count) (suc n) ≡ w = word-next (words-of cs is count) n ∙ getD-words n (found .0) ∙ ap labels-of (found .1) ∙ labels-path w in
+          subst (λ (v : List ℕ). number-of (words-of cs is count) v ≡ Some (suc n)) here (number-word (words-of cs is count) (suc n) words-lawful (omega arith) (omega (arith, found .0)))
 
-    by : (a b : Option ℕ) → number-at cs (path-of w) ≡ a → number-of (words-of cs is count) w ≡ b → a ≡ b
-    by None None e f = refl
-    by None (Some zero) e f = absurd (omega (arith, number-some (words-of cs is count) w 0 f .0))
-    by None (Some (suc n)) e f =
-        let found = number-some (words-of cs is count) w (suc n) f in
-        let low : n < count = omega (arith, found .1, length-words) in
-        let path : path-at cs is n ≡ path-of w = sym (path-word n low) ∙ ap path-of (sym (getD-words n low) ∙ sym (word-next (words-of cs is count) n) ∙ found .2) in
-        absurd (no-some (suc n) (sym e ∙ ap (number-at cs) (sym path) ∙ path-number n low))
-    by (Some zero) b e f = absurd (number-positive cs (path-of w) e)
-    by (Some (suc n)) b e f = sym (held n e) ∙ f
+      by : (a b : Option ℕ) → number-at cs (path-of w) ≡ a → number-of (words-of cs is count) w ≡ b → a ≡ b
+      by None None e f = refl
+      by None (Some zero) e f = absurd (omega (arith, number-some (words-of cs is count) w 0 f .0))
+      by None (Some (suc n)) e f =
+          let found = number-some (words-of cs is count) w (suc n) f in
+          let low : n < count = omega (arith, found .1, length-words) in
+          let path : path-at cs is n ≡ path-of w = sym (path-word n low) ∙ ap path-of (sym (getD-words n low) ∙ sym (word-next (words-of cs is count) n) ∙ found .2) in
+          absurd (no-some (suc n) (sym e ∙ ap (number-at cs) (sym path) ∙ path-number n low))
+      by (Some zero) b e f = absurd (number-positive cs (path-of w) e)
+      by (Some (suc n)) b e f = sym (held n e) ∙ f
 
 -- a new word that was entered with the next number is the last of the roll
 module _ (cs : List Cell) (is : List ℕ) (count : ℕ) (l : Listed cs is count) (w : List ℕ) (xs : Arrays)
-  (sized : label-sized w ≡ true) (place : count < length is) (few : count < 65535) (did : enter cs is (path-of w) count ≡ Some xs) where
+    (sized : label-sized w ≡ true) (place : count < length is) (few : count < 65535) (did : enter cs is (path-of w) count ≡ Some xs) where
   outcome : Enters cs is (path-of w) count xs
   outcome = entering cs is (path-of w) count xs (l .sound) (l .unnumbered count (omega arith)) did
 
@@ -148,9 +148,9 @@ module _ (cs : List Cell) (is : List ℕ) (count : ℕ) (l : Listed cs is count)
       ⊎-elim
       (λ low. (old-led n low .0, ap word-path (old-led n low .1) ∙ l .worded n low))
       (λ high.
-        let last : count ≡ n = omega arith in
-        subst (λ (k : ℕ). (0 < getD (xs .index) k 0) × (word-path (path-at (xs .cells) (xs .index) k) ≡ true)) last
-        (new-led .0, ap word-path (new-led .1) ∙ word-path-of w sized))
+      let last : count ≡ n = omega arith in
+      subst (λ (k : ℕ). (0 < getD (xs .index) k 0) × (word-path (path-at (xs .cells) (xs .index) k) ≡ true)) last
+      (new-led .0, ap word-path (new-led .1) ∙ word-path-of w sized))
       (cases-lt n count)
 
   none-led : (n : ℕ) → count + 1 ≤ n → getD (xs .index) n 0 ≡ 0
@@ -158,18 +158,18 @@ module _ (cs : List Cell) (is : List ℕ) (count : ℕ) (l : Listed cs is count)
       ⊎-elim
       (λ zero′. zero′)
       (λ some.
-        let e = indexing (xs .cells) (xs .index) n (outcome .sound) .leaf (omega arith) in
-        absurd (⊎-elim
-          (λ before. omega (arith, number-path cs is count l (path-at (xs .cells) (xs .index) n) n before .0))
-          (λ here. omega arith)
-          (number-back (path-at (xs .cells) (xs .index) n) n e)))
+      let e = indexing (xs .cells) (xs .index) n (outcome .sound) .leaf (omega arith) in
+      absurd (⊎-elim
+      (λ before. omega (arith, number-path cs is count l (path-at (xs .cells) (xs .index) n) n before .0))
+      (λ here. omega arith)
+      (number-back (path-at (xs .cells) (xs .index) n) n e)))
       (cases-eq (getD (xs .index) n 0) 0)
 
   pub grown-words : words-of (xs .cells) (xs .index) (count + 1) ≡ words-of cs is count ++ w ∷ []
   grown-words =
       let old : words-of cs is count ≡ words-of (xs .cells) (xs .index) count =
-        fill-by-all (word-at (xs .cells) (xs .index)) (words-of cs is count) count [] (length-words cs is count l)
-        (λ k h. getD-words cs is count l k h ∙ ap labels-of (sym (old-led k h .1))) in
+      fill-by-all (word-at (xs .cells) (xs .index)) (words-of cs is count) count [] (length-words cs is count l)
+      (λ k h. getD-words cs is count l k h ∙ ap labels-of (sym (old-led k h .1))) in
       let last : word-at (xs .cells) (xs .index) count ≡ w = ap labels-of (new-led .1) ∙ labels-path w in
       map-counting-more (word-at (xs .cells) (xs .index)) 0 count count (let z : 0 + count ≡ count = omega arith in z)
       ∙ ap (λ (v : List (List ℕ)). v ++ word-at (xs .cells) (xs .index) count ∷ []) (sym old)

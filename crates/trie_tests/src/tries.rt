@@ -57,7 +57,15 @@ fn entered(words: &mut TrieList, cases: &[(&[u8], Result<u16, ListFault>)]) -> R
 #[test]
 fn a_family_moves(rt: LibcRuntime) -> Result<(), Fail> {
     let mut words = list(rt.alloc(), 104, 3)?;
-    entered(&mut words, &[(b"a", Ok(1)), (b"b", Ok(2)), (b"ab", Ok(3)), (b"c", Err(ListFault::NoRoom))])?;
+    entered(
+        &mut words,
+        &[
+            (b"a", Ok(1)),
+            (b"b", Ok(2)),
+            (b"ab", Ok(3)),
+            (b"c", Err(ListFault::NoRoom)),
+        ],
+    )?;
     let wanted = [
         (1, (1, 1)),
         (2, (-3, 103)),
@@ -78,7 +86,14 @@ fn a_family_moves(rt: LibcRuntime) -> Result<(), Fail> {
 #[test]
 fn a_word_without_a_place_leaves_the_cells(rt: LibcRuntime) -> Result<(), Fail> {
     let mut words = list(rt.alloc(), 103, 3)?;
-    entered(&mut words, &[(b"a", Ok(1)), (b"b", Ok(2)), (b"ab", Err(ListFault::NoRoom))])?;
+    entered(
+        &mut words,
+        &[
+            (b"a", Ok(1)),
+            (b"b", Ok(2)),
+            (b"ab", Err(ListFault::NoRoom)),
+        ],
+    )?;
     let wanted = [
         (1, (1, 1)),
         (2, (-1, 100)),
@@ -105,9 +120,20 @@ fn small_arrays_have_no_room(rt: LibcRuntime) -> Result<(), Fail> {
 #[test]
 fn any_bytes_and_any_script(rt: LibcRuntime) -> Result<(), Fail> {
     let mut words = list(rt.alloc(), 3000, 8)?;
-    entered(&mut words, &[(&[0, 255], Ok(1)), (&[0], Ok(2)), (&[255], Ok(3)), (&[0, 255], Ok(1))])?;
+    entered(
+        &mut words,
+        &[
+            (&[0, 255], Ok(1)),
+            (&[0], Ok(2)),
+            (&[255], Ok(3)),
+            (&[0, 255], Ok(1)),
+        ],
+    )?;
     check_eq(enter_word(&mut words, &[255u16]), Ok(Entry::Held(1)))?;
-    check_eq(enter_word(&mut words, &[0x65e5u16, 0x672c]), Ok(Entry::New(4)))?;
+    check_eq(
+        enter_word(&mut words, &[0x65e5u16, 0x672c]),
+        Ok(Entry::New(4)),
+    )?;
     let noun = MorphemeSign {
         class: MorphemeClass::Noun,
         form: 258,

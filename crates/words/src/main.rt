@@ -25,6 +25,7 @@ use trie_list::TrieReadable;
 
 // How many words and how many cells the list has places for.
 const WORD_PLACES: usize = 64;
+
 const CELL_PLACES: usize = 2048;
 
 // Prints a number and its word.

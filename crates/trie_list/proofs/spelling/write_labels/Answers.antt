@@ -29,11 +29,12 @@ index-labels-i c = omega (arith, word-path-size (c .args .path .now) (c .pre .wo
 
 pub loop-i-again : need.loop-i-again
 loop-i-again c =
-    let size = word-path-size (c .args .path .now) (c .pre .word) .1 in
-    (search needs,
+    let size = word-path-size (c .args .path .now) (c .pre .word) .1 in (
+      search needs,
       below-more _ _
-      (λ k h. let ne : k ≢ c .loop-i .i = omega arith in rw getD-set-other (c .loop-i .inv .1 k h))
-      (let lt : c .loop-i .i < length (c .loop-i .labels) = omega (arith, c .loop-i .inv .0, c .loop-i-test .taken) in rw getD-set-same))
+          (λ k h. let ne : k ≢ c .loop-i .i = omega arith in rw getD-set-other (c .loop-i .inv .1 k h))
+          (let lt : c .loop-i .i < length (c .loop-i .labels) = omega (arith, c .loop-i .inv .0, c .loop-i-test .taken) in rw getD-set-same),
+    )
 
 pub returns : need.returns
 returns c =

@@ -16,6 +16,6 @@ returns c =
     record {
       size = refl;
       path = path-written w (set (l .path) (length w) 1) (omega (arith, length-set (l .path) (length w) 1))
-        (λ k h. let ne : k ≢ length w = omega arith in rw getD-set-other (l .inv .1 k (omega (arith, c .loop-i-test .left))))
-        (rw getD-set-same);
+          (λ k h. let ne : k ≢ length w = omega arith in rw getD-set-other (l .inv .1 k (omega (arith, c .loop-i-test .left))))
+          (rw getD-set-same);
     }

@@ -24,7 +24,7 @@ returns-in-Break-enter c =
     let long = ap length (c .index .ensures) in
     let left : s .count < min (length (index-of (s .array))) 65535 = omega (arith, c .min .ensures, long, c .if-self-min .left) in
     let said = refused-place s w (c .pre .sized) (c .pre .absent) (λ k. omega (arith, c .typed .word k)) left e
-      (subst (λ (z : List ℕ). refusal (cells-of (s .array)) (index-of (s .array)) z (s .count + 1) ≡ Some e) slice (m .cells .0)) in
+    (subst (λ (z : List ℕ). refusal (cells-of (s .array)) (index-of (s .array)) z (s .count + 1) ≡ Some e) slice (m .cells .0)) in
     let p = err-from-errBy (c .from-residual .result) (c .from-residual .ensures .1) in
     append-refused s w (c .from-residual .result) _ (p .0) (p .1) (p .2 ∙ ap path-refusal (said .0)) (said .1) (m .same) refl
 
@@ -50,6 +50,9 @@ returns c =
     let slice = written-slice (c .write-path-size .result) (c .write-path-size .last .path) w (c .write-path-size .ensures .path) in
     let long = ap length (c .index .ensures) in
     let left : s .count < min (length (index-of (s .array))) 65535 = omega (arith, c .min .ensures, long, c .if-self-min .left) in
-    let did = entered-as s w (c .pre .sized) (c .pre .absent) (λ k. omega (arith, c .typed .word k)) left _ xs slice (c .in-Continue-enter .ensures tt .cells .1) in
-    (room-yes s w (c .pre .sized) (c .pre .absent) (λ k. omega (arith, c .typed .word k)) left xs did, refl, record { arrays-after = did; count-after = refl },
-      grown-words (cells-of (s .array)) (index-of (s .array)) (s .count) (listed s) w xs (c .pre .sized) (omega arith) (omega arith) did)
+    let did = entered-as s w (c .pre .sized) (c .pre .absent) (λ k. omega (arith, c .typed .word k)) left _ xs slice (c .in-Continue-enter .ensures tt .cells .1) in (
+      room-yes s w (c .pre .sized) (c .pre .absent) (λ k. omega (arith, c .typed .word k)) left xs did,
+      refl,
+      record { arrays-after = did; count-after = refl },
+      grown-words (cells-of (s .array)) (index-of (s .array)) (s .count) (listed s) w xs (c .pre .sized) (omega arith) (omega arith) did,
+    )

@@ -38,9 +38,10 @@ returns-in-Ok c =
     let p = path-at (cells-of (s .array)) (index-of (s .array)) (c .args .number - 1) in
     let m = c .in-Ok .ensures tt .path in
     let same = written-path (c .in-Ok .size) p _ (c .path-of .last .out) (m .1) (m .2) in
-    let size = label-bounds (labels-of p) (word-path-parts p (path-words s (c .args .number) (c .pre)) .1) in
-    (c .write-labels .ensures .labels ∙ ap labels-of same ∙ word-labels s (c .args .number) (c .pre),
-      omega (arith, c .write-labels .ensures .size, ap (λ (z : List ℕ). length (labels-of z)) same, size .1))
+    let size = label-bounds (labels-of p) (word-path-parts p (path-words s (c .args .number) (c .pre)) .1) in (
+      c .write-labels .ensures .labels ∙ ap labels-of same ∙ word-labels s (c .args .number) (c .pre),
+      omega (arith, c .write-labels .ensures .size, ap (λ (z : List ℕ). length (labels-of z)) same, size .1),
+    )
 
 pub returns-in-Err : need.returns-in-Err
 returns-in-Err c = absurd (no-some (c .in-Err .field-0) (sym (path-known (c .args .self .now) (c .args .number) (c .pre)) ∙ c .in-Err .ensures tt .path .0))

@@ -10,7 +10,7 @@ pub returns-in-Some : need.returns-in-Some
 returns-in-Some c =
     let s = c .args .self .now in
     let w = c .args .word .now in
-    c .in-Some .ensures tt
+    c .in-Some .ensures tt .number
     ∙ ap (number-at (cells-of (s .array))) (written-slice (c .write-path-size .result) (c .write-path-size .last .path) w (c .write-path-size .ensures .path))
     ∙ number-is (cells-of (s .array)) (index-of (s .array)) (s .count) (listed s) w
 
@@ -18,6 +18,6 @@ pub returns-in-None : need.returns-in-None
 returns-in-None c =
     let s = c .args .self .now in
     let w = c .args .word .now in
-    c .in-None .ensures tt
+    c .in-None .ensures tt .number
     ∙ ap (number-at (cells-of (s .array))) (written-slice (c .write-path-size .result) (c .write-path-size .last .path) w (c .write-path-size .ensures .path))
     ∙ number-is (cells-of (s .array)) (index-of (s .array)) (s .count) (listed s) w

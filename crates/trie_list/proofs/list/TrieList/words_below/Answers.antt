@@ -27,7 +27,7 @@ returns c =
     let slice = codes-slice b path (ap (λ (n : ℕ). take n path) (sym (c .write-path .ensures .size)) ∙ c .write-path .ensures .path) in
     let fit : leb (length b) 128 ≡ true = le-leb (length b) 128 (c .if-beginning-gt128 .left) in
     let all = told (below-of s b) out (c .numbers-below .result) (c .numbers-below .last .out)
-      (subst (λ (z : List ℕ). Filled (numbers-from cs z) out (c .numbers-below .result) (c .numbers-below .last .out)) slice (m .output)) in
+    (subst (λ (z : List ℕ). Filled (numbers-from cs z) out (c .numbers-below .result) (c .numbers-below .last .out)) slice (m .output)) in
     let words = words-below s b (subst (λ (z : List ℕ). Members cs z (numbers-from cs z)) slice (m .members)) (subst (λ (z : List ℕ). Ordered cs is (numbers-from cs z)) slice (m .order)) in
     record {
       answer = c .ok-or .ensures .value ∙ all .answer ∙ sym (cond-true (leb (length b) 128) _ _ fit);
