@@ -8,14 +8,14 @@ ghost use Rattle.cells.specs.Walking.{walk as walk-from};
 use cells::Cell;
 
 // Whether the cell `t` exists and is free.
-pub fn is_free(cells: &[Cell], t: usize) -> bool
+pub(super) fn is_free(cells: &[Cell], t: usize) -> bool
     ensures { λ r. ⌜ r ≡ is-free (now (cells .entry)) t ⌝ }
 {
     t < cells.len() && cells[t].base == 0 && cells[t].check == 0
 }
 
 // Whether `s` is a leaf.
-pub fn is_leaf(cells: &[Cell], s: usize) -> bool
+pub(super) fn is_leaf(cells: &[Cell], s: usize) -> bool
     requires { ⌜ s < length (now cells) ⌝ }
     ensures { λ r. ⌜ r ≡ is-leaf (now (cells .entry)) s ⌝ }
 {
@@ -41,7 +41,7 @@ pub fn child(cells: &[Cell], s: usize, code: u16) -> Option<usize>
 }
 
 // Writes the codes by which `s` has a child into the front of `out`, in rising order, and says how many there are.
-pub fn child_codes(cells: &[Cell], s: usize, out: &mut [u16]) -> usize
+pub(super) fn child_codes(cells: &[Cell], s: usize, out: &mut [u16]) -> usize
     requires within { ⌜ s < length (now cells) ⌝ }
     requires room { ⌜ length (now cells) < 2 ^ 31 ⌝ }
     requires long { ⌜ 257 ≤ length (now out) ⌝ }
@@ -59,7 +59,7 @@ pub fn child_codes(cells: &[Cell], s: usize, out: &mut [u16]) -> usize
 }
 
 // The cell that the path leads to from the root.
-pub fn walk(cells: &[Cell], path: &[u16]) -> Option<usize>
+pub(super) fn walk(cells: &[Cell], path: &[u16]) -> Option<usize>
     requires two { ⌜ 1 < length (now cells) ⌝ }
     requires room { ⌜ length (now cells) < 2 ^ 31 ⌝ }
     ensures cell { λ r. ⌜ r ≡ walk-from (now (cells .entry)) 1 (now (path .entry)) ⌝ }
@@ -76,7 +76,7 @@ pub fn walk(cells: &[Cell], path: &[u16]) -> Option<usize>
 }
 
 // Whether `s` has a child.
-pub fn has_child(cells: &[Cell], s: usize) -> bool
+pub(super) fn has_child(cells: &[Cell], s: usize) -> bool
     requires within { ⌜ s < length (now cells) ⌝ }
     requires room { ⌜ length (now cells) < 2 ^ 31 ⌝ }
     ensures { λ r. ⌜ r ≡ some-code (child-codes (now (cells .entry)) s) ⌝ }

@@ -31,14 +31,14 @@ struct Growth {
 }
 
 // Whether it is a path: 1 to 129 codes.
-pub fn is_path(path: &[u16]) -> bool
+pub(super) fn is_path(path: &[u16]) -> bool
     ensures { λ r. ⌜ r ≡ is-path (now (path .entry)) ⌝ }
 {
     path.len() > 0 && path.len() < 130 && all_codes(path)
 }
 
 // Whether the number can be given: from 1 to 2,147,483,647, with no leaf in the index.
-pub fn is_open(index: &[u32], number: u32) -> bool
+pub(super) fn is_open(index: &[u32], number: u32) -> bool
     ensures { λ r. ⌜ r ≡ is-open (now (index .entry)) number ⌝ }
 {
     if number == 0 || number >= 2_147_483_648 {
@@ -49,7 +49,7 @@ pub fn is_open(index: &[u32], number: u32) -> bool
 }
 
 // Follows the path from the root as far as there are edges: the last node, and how many codes led there.
-pub fn follow(cells: &[Cell], path: &[u16]) -> (usize, usize)
+pub(super) fn follow(cells: &[Cell], path: &[u16]) -> (usize, usize)
     requires two { ⌜ 1 < length (now cells) ⌝ }
     requires room { ⌜ length (now cells) < 2 ^ 31 ⌝ }
     ensures node { λ r. ⌜ r .0 ≡ followed (now (cells .entry)) 1 (now (path .entry)) .node ⌝ }
@@ -68,7 +68,7 @@ pub fn follow(cells: &[Cell], path: &[u16]) -> (usize, usize)
 }
 
 // Frees the cell `t` and the cells above it, `n` in all.
-pub fn free_up(cells: &mut [Cell], t: usize, n: usize)
+pub(super) fn free_up(cells: &mut [Cell], t: usize, n: usize)
     requires room { ⌜ length (now cells) < 2 ^ 31 ⌝ }
     requires within { ⌜ t < length (now cells) ⌝ }
     requires parents { ⌜ Parented (now cells) ⌝ }
@@ -110,7 +110,13 @@ fn leaf_base(number: u32) -> i32
 
 // Gives `s` a child by the first code, that one a child by the next, and so on to a leaf with the number. Where one has no
 // place, all is undone.
-pub fn extend(cells: &mut [Cell], index: &mut [u32], s: usize, codes: &[u16], number: u32) -> bool
+pub(super) fn extend(
+    cells: &mut [Cell],
+    index: &mut [u32],
+    s: usize,
+    codes: &[u16],
+    number: u32,
+) -> bool
     requires room { ⌜ length (now cells) < 2 ^ 31 ⌝ }
     requires number { ⌜ (0 < number) × (number < 2 ^ 31) ⌝ }
     requires some { ⌜ 0 < length (now codes) ⌝ }
@@ -144,7 +150,7 @@ pub fn extend(cells: &mut [Cell], index: &mut [u32], s: usize, codes: &[u16], nu
 }
 
 // Enters the path with the number, or says why it is refused and changes nothing.
-pub fn enter(
+pub(super) fn enter(
     cells: &mut [Cell],
     index: &mut [u32],
     path: &[u16],

@@ -14,6 +14,5 @@ mod pruning;
 
 pub use array::DoubleArray;
 pub use edges::child;
-pub use edges::is_leaf;
 pub use paths::cell_at;
 pub use paths::leaf_number;

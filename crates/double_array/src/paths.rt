@@ -16,14 +16,14 @@ use cells::Cell;
 use refusal::NumberFault;
 
 // Whether it is the code of the end sign, 1, or of a label, 2 to 257.
-pub fn is_code(code: u16) -> bool
+pub(super) fn is_code(code: u16) -> bool
     ensures { λ r. ⌜ r ≡ is-code code ⌝ }
 {
     code > 0 && code < 258
 }
 
 // Whether each of them is a code.
-pub fn all_codes(path: &[u16]) -> bool
+pub(super) fn all_codes(path: &[u16]) -> bool
     ensures { λ r. ⌜ r ≡ all-codes (now (path .entry)) ⌝ }
 {
     for code in path {
@@ -60,7 +60,7 @@ pub fn cell_at(cells: &[Cell], path: &[u16]) -> Option<usize>
 }
 
 // The number of the leaf that the path leads to.
-pub fn number_at(cells: &[Cell], path: &[u16]) -> Option<u32>
+pub(super) fn number_at(cells: &[Cell], path: &[u16]) -> Option<u32>
     requires { ⌜ length (now cells) < 2 ^ 31 ⌝ }
     ensures { λ r. ⌜ r ≡ number-at (now (cells .entry)) (now (path .entry)) ⌝ }
 {
@@ -72,7 +72,7 @@ pub fn number_at(cells: &[Cell], path: &[u16]) -> Option<u32>
 }
 
 // How many codes lead to the cell `t`.
-pub fn path_length(cells: &[Cell], t: usize) -> usize
+pub(super) fn path_length(cells: &[Cell], t: usize) -> usize
     requires upward { ⌜ Upward (now cells) ⌝ }
     requires used { ⌜ 0 < parent (now cells) t ⌝ }
     requires room { ⌜ length (now cells) < 2 ^ 31 ⌝ }
@@ -91,7 +91,7 @@ pub fn path_length(cells: &[Cell], t: usize) -> usize
 }
 
 // Writes the path that leads to the cell `t` into `out`, which is as long as the path.
-pub fn write_path(cells: &[Cell], t: usize, out: &mut [u16])
+pub(super) fn write_path(cells: &[Cell], t: usize, out: &mut [u16])
     requires upward { ⌜ Upward (now cells) ⌝ }
     requires used { ⌜ 0 < parent (now cells) t ⌝ }
     requires room { ⌜ length (now cells) < 2 ^ 31 ⌝ }
@@ -107,7 +107,7 @@ pub fn write_path(cells: &[Cell], t: usize, out: &mut [u16])
 }
 
 // The leaf of the number, by the index.
-pub fn leaf_of(index: &[u32], number: u32) -> Option<usize>
+pub(super) fn leaf_of(index: &[u32], number: u32) -> Option<usize>
     ensures { λ r. ⌜ r ≡ cond (is-known (now (index .entry)) number) (Some (getD (now (index .entry)) (number - 1) 0)) None ⌝ }
 {
     if number == 0 || number as usize > index.len() {
@@ -119,7 +119,7 @@ pub fn leaf_of(index: &[u32], number: u32) -> Option<usize>
 
 // Writes the path of the number into the front of `out` and says its length, or writes nothing where the number has no
 // leaf or `out` is too short.
-pub fn path_of(
+pub(super) fn path_of(
     cells: &[Cell],
     index: &[u32],
     number: u32,
@@ -142,7 +142,7 @@ pub fn path_of(
 }
 
 // How many cells are in use.
-pub fn in_use(cells: &[Cell]) -> usize
+pub(super) fn in_use(cells: &[Cell]) -> usize
     ensures { λ r. ⌜ r ≡ in-use (now (cells .entry)) ⌝ }
 {
     let mut n = 0;

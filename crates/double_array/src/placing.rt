@@ -12,7 +12,7 @@ use super::edges::is_free;
 use cells::Cell;
 
 // The lowest base from 1 up at which each of the codes has a free cell.
-pub fn lowest_base(cells: &[Cell], codes: &[u16]) -> Option<usize>
+pub(super) fn lowest_base(cells: &[Cell], codes: &[u16]) -> Option<usize>
     requires some { ⌜ 0 < length (now codes) ⌝ }
     requires room { ⌜ length (now cells) < 2 ^ 31 ⌝ }
     ensures { λ r. ⌜ r ≡ lowest (now (cells .entry)) (now (codes .entry)) ⌝ }
@@ -30,7 +30,7 @@ pub fn lowest_base(cells: &[Cell], codes: &[u16]) -> Option<usize>
 }
 
 // Gives each child of `from`, whose base is `base`, the parent `to`.
-pub fn repoint(cells: &mut [Cell], base: usize, from: usize, to: usize)
+pub(super) fn repoint(cells: &mut [Cell], base: usize, from: usize, to: usize)
     requires from_within { ⌜ from < length (now cells) ⌝ }
     requires to_within { ⌜ to < length (now cells) ⌝ }
     requires room { ⌜ length (now cells) < 2 ^ 31 ⌝ }
@@ -46,7 +46,7 @@ pub fn repoint(cells: &mut [Cell], base: usize, from: usize, to: usize)
 }
 
 // Notes in the index that the leaf with this base stands in the cell `to`. A number past the index is not noted.
-pub fn note_leaf(index: &mut [u32], base: i32, to: usize)
+pub(super) fn note_leaf(index: &mut [u32], base: i32, to: usize)
     requires room { ⌜ to < 2 ^ 31 ⌝ }
     ensures { λ _. ⌜ now (index .exit) ≡ reindexed (now (index .entry)) base to ⌝ }
 {
@@ -59,7 +59,7 @@ pub fn note_leaf(index: &mut [u32], base: i32, to: usize)
 }
 
 // Moves the node in the cell `from` to the cell `to`; its children, or its leaf's entry in the index, follow.
-pub fn move_child(cells: &mut [Cell], index: &mut [u32], from: usize, to: usize)
+pub(super) fn move_child(cells: &mut [Cell], index: &mut [u32], from: usize, to: usize)
     requires from_within { ⌜ from < length (now cells) ⌝ }
     requires to_within { ⌜ to < length (now cells) ⌝ }
     requires room { ⌜ length (now cells) < 2 ^ 31 ⌝ }
@@ -76,7 +76,7 @@ pub fn move_child(cells: &mut [Cell], index: &mut [u32], from: usize, to: usize)
 }
 
 // Moves the children by these codes from the base `old` to the base `new`.
-pub fn relocate(cells: &mut [Cell], index: &mut [u32], codes: &[u16], old: usize, new: usize)
+pub(super) fn relocate(cells: &mut [Cell], index: &mut [u32], codes: &[u16], old: usize, new: usize)
     requires room { ⌜ length (now cells) < 2 ^ 31 ⌝ }
     requires from { ⌜ ((k : ℕ) → k < length (now codes) → old + getD (now codes) k 0 < length (now cells)) ⌝ }
     requires to { ⌜ ((k : ℕ) → k < length (now codes) → new + getD (now codes) k 0 < length (now cells)) ⌝ }
@@ -89,14 +89,20 @@ pub fn relocate(cells: &mut [Cell], index: &mut [u32], codes: &[u16], old: usize
 }
 
 // The base as the number of a cell, 0 for a node without children.
-pub fn cell_number(base: i32) -> usize
+pub(super) fn cell_number(base: i32) -> usize
     ensures { λ r. ⌜ r ≡ nat base ⌝ }
 {
     if base > 0 { base as usize } else { 0 }
 }
 
 // Moves the children of `s`, whose codes are given, to the base `new`, which becomes the base of `s`.
-pub fn move_family(cells: &mut [Cell], index: &mut [u32], s: usize, codes: &[u16], new: usize)
+pub(super) fn move_family(
+    cells: &mut [Cell],
+    index: &mut [u32],
+    s: usize,
+    codes: &[u16],
+    new: usize,
+)
     requires room { ⌜ length (now cells) < 2 ^ 31 ⌝ }
     requires within { ⌜ s < length (now cells) ⌝ }
     requires base { ⌜ new < 2 ^ 31 ⌝ }
@@ -111,7 +117,7 @@ pub fn move_family(cells: &mut [Cell], index: &mut [u32], s: usize, codes: &[u16
 }
 
 // Gives `s` a child by the code, with the base, and says in which cell it stands, or that there is no place.
-pub fn give_child(
+pub(super) fn give_child(
     cells: &mut [Cell],
     index: &mut [u32],
     s: usize,
@@ -140,7 +146,7 @@ pub fn give_child(
 }
 
 // Frees every cell but the root.
-pub fn clear(cells: &mut [Cell])
+pub(super) fn clear(cells: &mut [Cell])
     ensures { λ _. ⌜ ((j : ℕ) → j < length (now (cells .entry)) → at (now (cells .exit)) j ≡ cleared j) ⌝ }
 {
     for cell in cells.iter_mut() {
@@ -152,7 +158,7 @@ pub fn clear(cells: &mut [Cell])
 }
 
 // Leaves each number without a leaf.
-pub fn clear_index(index: &mut [u32])
+pub(super) fn clear_index(index: &mut [u32])
     ensures { λ _. ⌜ ((n : ℕ) → getD (now (index .exit)) n 0 ≡ 0) ⌝ }
 {
     for entry in index.iter_mut() {

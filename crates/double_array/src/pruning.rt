@@ -12,7 +12,7 @@ use super::placing::note_leaf;
 use cells::Cell;
 
 // Frees the cell `t` and then each cell above it that has no child left, at most `n` cells.
-pub fn prune(cells: &mut [Cell], t: usize, n: usize)
+pub(super) fn prune(cells: &mut [Cell], t: usize, n: usize)
     requires room { ⌜ length (now cells) < 2 ^ 31 ⌝ }
     requires within { ⌜ t < length (now cells) ⌝ }
     requires parents { ⌜ Parented (now cells) ⌝ }
@@ -30,7 +30,7 @@ pub fn prune(cells: &mut [Cell], t: usize, n: usize)
 }
 
 // Gives a root without children the base 1.
-pub fn reset_root(cells: &mut [Cell])
+pub(super) fn reset_root(cells: &mut [Cell])
     requires two { ⌜ 1 < length (now cells) ⌝ }
     requires room { ⌜ length (now cells) < 2 ^ 31 ⌝ }
     ensures { λ _. ⌜ now (cells .exit) ≡ root-reset (now (cells .entry)) ⌝ }
@@ -41,7 +41,7 @@ pub fn reset_root(cells: &mut [Cell])
 }
 
 // Takes the path out and says its number, or changes nothing where the path is not held.
-pub fn take_out(cells: &mut [Cell], index: &mut [u32], path: &[u16]) -> Option<u32>
+pub(super) fn take_out(cells: &mut [Cell], index: &mut [u32], path: &[u16]) -> Option<u32>
     requires room { ⌜ length (now cells) < 2 ^ 31 ⌝ }
     requires parents { ⌜ (1 < length (now cells) → Parented (now cells)) ⌝ }
     ensures { λ r. ⌜ Taken (now (cells .entry)) (now (index .entry)) (now (path .entry)) r (now (cells .exit)) (now (index .exit)) ⌝ }

@@ -9,7 +9,7 @@ use double_array::child;
 
 // How many of `room` places are left after the numbers below the cell `s`, by at most `left` codes,
 // or none where they are too few.
-pub fn room_below(cells: &[Cell], s: usize, left: usize, room: usize) -> Option<usize>
+pub(super) fn room_below(cells: &[Cell], s: usize, left: usize, room: usize) -> Option<usize>
     requires within { ⌜ s < length (now cells) ⌝ }
     requires sized { ⌜ length (now cells) < 2 ^ 31 ⌝ }
     ensures { λ r. ⌜ r ≡ room-after room (numbers-below left (now (cells .entry)) s) ⌝ }

@@ -10,7 +10,13 @@ use double_array::child;
 
 // Writes the numbers below the cell `s`, by at most `left` codes, into `out` from `at` on, and
 // answers where they end.
-pub fn write_below(cells: &[Cell], s: usize, left: usize, out: &mut [u32], at: usize) -> usize
+pub(super) fn write_below(
+    cells: &[Cell],
+    s: usize,
+    left: usize,
+    out: &mut [u32],
+    at: usize,
+) -> usize
     requires within { ⌜ s < length (now cells) ⌝ }
     requires sized { ⌜ length (now cells) < 2 ^ 31 ⌝ }
     requires room { ⌜ at + length (numbers-below left (now cells) s) ≤ length (now out) ⌝ }
