@@ -24,5 +24,4 @@ pub mod TakesOut
 pub mod Undoes
 pub mod Tallies
 pub mod Starts
-pub mod Extends
 pub mod Examples

@@ -19,7 +19,6 @@ use Rattle.cells.specs.Cells.{at, nat, base-of, parent, eqZ, edge, child, code
 use Rattle.cells.specs.Trees.{Edge, Reach, In, Apart, Family}
 use Rattle.cells.specs.Walking.{onward, walk, turned}
 use Rattle.cells.proofs.Basics.{no-some, some-is}
-pub use Rattle.cells.proofs.Basics.{no-some as none-some}
 use Rattle.cells.proofs.Paths.{edge-up, reach-some, reach-same}
 use Rattle.cells.proofs.Counts.{within}
 use Rattle.cells.proofs.Relocations.{positive, eqZ-yes}

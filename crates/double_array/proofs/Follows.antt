@@ -14,7 +14,7 @@ use Rattle.cells.specs.declared.Cell.{Cell}
 use Rattle.std.proofs.shelf.Tests.{cond-both, cond-false, and-parts, both-ways, eqb-true, ltb-true}
 use Rattle.cells.specs.Cells.{at, nat, parent, eqZ, is-leaf, edge, child, all-codes}
 use Rattle.cells.specs.Placing.{extend, found-or, enter-from}
-use Rattle.cells.proofs.Walks.{none-some}
+use Rattle.cells.proofs.Basics.{no-some}
 use Rattle.double_array.specs.Entries.{Followed, follow, or-stop, extended}
 
 module _ (cs : List Cell) (s : ℕ) (p : List ℕ) (i : ℕ) (within : i < length p) where
@@ -46,7 +46,7 @@ child-up cs s a t =
     let same : u ≡ t = cc in
     let h = and-parts _ _ e in
     (omega (arith, above-none (at cs s .base) (and-parts _ _ (h .0) .0)), subst (λ x. parent cs x ≡ s) same (equal-nat (at cs u .check) s (h .1))))
-    (λ e is. absurd (none-some t is))
+    (λ e is. absurd (no-some t is))
 
 -- what is known of the node where a path from s leaves the tree
 pub record Stop (cs : List Cell) (p : List ℕ) (s : ℕ) (f : Followed) : Type 0 where

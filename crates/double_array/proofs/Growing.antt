@@ -22,7 +22,8 @@ use Rattle.cells.proofs.Paths.{edge-up, reach-some}
 use Rattle.cells.proofs.Counts.{within}
 use Rattle.cells.proofs.Renamings.{up-used}
 use Rattle.cells.proofs.Climbs.{codes-from}
-use Rattle.cells.proofs.Walks.{listing, none-some, edge-child}
+use Rattle.cells.proofs.Basics.{no-some}
+use Rattle.cells.proofs.Walks.{listing, edge-child}
 use Rattle.cells.proofs.Families.{in-getD}
 use Rattle.cells.proofs.Returns.{family-after}
 use Rattle.cells.proofs.Sounds.{Tidy, tidy-of, reach-of, inner-is, inner-base}
@@ -103,7 +104,7 @@ steps-is [] m = omega arith
 steps-is (b ∷ more) m = omega (arith, steps-is more (suc m))
 
 fresh-from : (cs : List Cell) (s a : ℕ) → 0 < s → child cs s a ≡ None → (u : ℕ) → Edge cs s a u → ⊥
-fresh-from cs s a some none u g = none-some u (sym none ∙ edge-child cs s a some u g)
+fresh-from cs s a some none u g = no-some u (sym none ∙ edge-child cs s a some u g)
 
 -- s, of sound cells, has no child by the first of the codes
 module _ (cs : List Cell) (is : List ℕ) (s : ℕ) (sound : Sound cs is) where
