@@ -11,6 +11,7 @@ use native.Mathlib.Omega.{arith}
 use lib.Dec.{ltb, eqb}
 use lib.ListN.{length, getD, drop}
 use denote.Struct.Props.{props}
+use Rattle.std.specs.Iters.{counting}
 use Rattle.std.specs.Options.{isSome, valueOr}
 use Rattle.std.specs.declared.option.Option.{Option}
 use Rattle.std.specs.declared.option.Option.the-variants.{Some, None}
@@ -28,6 +29,7 @@ use Rattle.cells.specs.Pruning.{take-out}
 use Rattle.cells.specs.Walking.{number-at}
 use Rattle.cells.proofs.Basics.{no-some, some-same}
 use Rattle.cells.proofs.Numbers.{decides-same}
+use Rattle.cells.proofs.Pigeons.{in-counting, apart-counting, in-kept, from-kept, apart-kept}
 use Rattle.double_array.specs.Entries.{is-path, is-open, no-place, refusal, Added}
 use Rattle.double_array.specs.Outcomes.{Removed}
 use Rattle.double_array.specs.Spellings.{is-known, path-of, unwritten}
@@ -93,6 +95,22 @@ module _ (s : LinkTable) where
       (λ unknown. absurd (no-some t (sym (cond-false (is-known is u) (Some (triple-of p)) None unknown) ∙ e)))
       (cases-bool (is-known is u))
 
+  -- a number that has a triple is in the index
+  known-from : (u : ℕ) → isSome (coded s u) ≡ true → is-known (index-of (s .array)) u ≡ true
+  known-from u some =
+      ⊎-elim
+      (λ known. known)
+      (λ unknown. absurd (both-ways false refl
+      (ap isSome (sym (cond-false (is-known (index-of (s .array)) u) (Some (triple-of (path-of (cells-of (s .array)) (index-of (s .array)) u))) None unknown)) ∙ some)))
+      (cases-bool (is-known (index-of (s .array)) u))
+
+  known-within : (u : ℕ) → is-known (index-of (s .array)) u ≡ true → (1 ≤ u) × (u ≤ limit s)
+  known-within u known =
+      let cs = cells-of (s .array) in
+      let is = index-of (s .array) in
+      let has = named-of cs is (sound-from (s .array)) u .held known in
+      (number-low cs (path-of cs is u) u has, number-high cs (limit s) (path-of cs is u) u (s .numbered) has)
+
   pub lawful : Lawful s
   lawful = record {
     to-triple = to-triple;
@@ -100,8 +118,29 @@ module _ (s : LinkTable) where
     bounds = λ t u e.
         let f = to-number t u e in
         (number-low (cells-of (s .array)) (path-of-triple t) u f, number-high (cells-of (s .array)) (limit s) (path-of-triple t) u (s .numbered) f);
+    few = s .few;
+    counted = λ u some. in-kept (is-known (index-of (s .array))) (counting 1 (limit s)) u (known-from u some) (in-counting 1 (limit s) u (known-within u (known-from u some) .0) (omega (arith, known-within u (known-from u some) .1)));
+    present = λ u i. ap isSome (cond-true (is-known (index-of (s .array)) u) (Some (triple-of (path-of (cells-of (s .array)) (index-of (s .array)) u))) None (from-kept (is-known (index-of (s .array))) (counting 1 (limit s)) u i .0));
+    apart = apart-kept (is-known (index-of (s .array))) (counting 1 (limit s)) (apart-counting 1 (limit s));
     only = held-path s;
   }
+
+-- numbers whose triples are the same way round in two tables
+coded-same : (x y : Option Triple) → ((q : Triple) → x ≡ Some q → y ≡ Some q) → ((q : Triple) → y ≡ Some q → x ≡ Some q) → x ≡ y
+coded-same None None f g = refl
+coded-same None (Some q) f g = g q refl
+coded-same (Some q) y f g = sym (f q refl)
+
+-- t has the triple more, with the number u: each other number has the triple that it had
+pub coded-others : (s t : LinkTable) (triple : Triple) (u : ℕ) → found t triple ≡ Some u → found s triple ≡ None → ((q : Triple) → (q ≡ triple → ⊥) → found t q ≡ found s q) → (v : ℕ) → (v ≡ u → ⊥) → coded t v ≡ coded s v
+coded-others s t triple u here none others v ne =
+    coded-same (coded t v) (coded s v)
+    (λ q e.
+    let f = lawful t .to-number q v e in
+    lawful s .to-triple q v (sym (others q (λ same. ne (some-same v u (sym f ∙ ap (found t) same ∙ here)))) ∙ f))
+    (λ q e.
+    let f = lawful s .to-number q v e in
+    lawful t .to-triple q v (others q (λ same. no-some v (sym none ∙ ap (found s) (sym same) ∙ f)) ∙ f))
 
 -- an array of no path, with an index of zeros, has no number
 module _ (d : DoubleArray) (none : (p : List ℕ) → number-at (cells-of d) p ≡ None) (zeros : (n : ℕ) → getD (index-of d) n 0 ≡ 0) where
@@ -112,11 +151,16 @@ module _ (d : DoubleArray) (none : (p : List ℕ) → number-at (cells-of d) p �
   none-held = kept-none (is-known (index-of d)) 1 (length (index-of d)) none-known
 
   pub new-fields : length (index-of d) ≤ 1048575 → Fields d 0
-  new-fields few =
-      (few,
-      ((λ p some. absurd (both-ways false refl (ap isSome (sym (none p)) ∙ some))),
-      ((λ p. subst (λ (o : Option ℕ). valueOr o 0 ≤ length (index-of d)) (sym (none p)) (omega arith)),
-      (sym none-held, tt))))
+  new-fields few = (
+    few,
+    (
+      (λ p some. absurd (both-ways false refl (ap isSome (sym (none p)) ∙ some))),
+      (
+        (λ p. subst (λ (o : Option ℕ). valueOr o 0 ≤ length (index-of d)) (sym (none p)) (omega arith)),
+        (sym none-held, tt),
+      ),
+    ),
+  )
 
 -- what the index and the cells give for a number fills five places
 module _ (s : LinkTable) (u : ℕ) where
@@ -251,14 +295,19 @@ module _ (s : LinkTable) (triple : Triple) (place : ℕ) (codes : all-codes (pat
       let js = index-of (t .array) in
       let p = path-of-triple triple in
       let few = put-numbered (t .array) long added in
+      let here = new-number cs xs is js p (place + 1) (sound-from (s .array)) (sound-from (t .array)) (s .numbered) few long none added in
+      let others : (q : Triple) → (q ≡ triple → ⊥) → found t q ≡ found s q =
+      λ q ne. added (path-of-triple q) ∙ cond-false (same-path (path-of-triple q) p) (Some (place + 1)) (number-at cs (path-of-triple q)) (path-other q triple ne) in
       record {
         arrays-after = did;
         number-low = omega arith;
         number-high = omega arith;
         number-open = cond-false (is-known is (place + 1)) (Some (triple-of (path-of cs is (place + 1)))) None
             (known-before cs xs is js p (place + 1) (sound-from (s .array)) (sound-from (t .array)) (s .numbered) few long none added);
-        here = new-number cs xs is js p (place + 1) (sound-from (s .array)) (sound-from (t .array)) (s .numbered) few long none added;
-        others = λ q ne. added (path-of-triple q) ∙ cond-false (same-path (path-of-triple q) p) (Some (place + 1)) (number-at cs (path-of-triple q)) (path-other q triple ne);
+        here = here;
+        others = others;
+        here-coded = lawful t .to-triple triple (place + 1) here;
+        others-coded = coded-others s t triple (place + 1) here none others;
         limit-same = long;
         one-more = put-held (t .array) long added;
       }
@@ -297,6 +346,10 @@ module _ (s : LinkTable) (triple : Triple) (u : ℕ) (has : found s triple ≡ S
     take-held =
         held-more (cells-of d) (cells-of (s .array)) (index-of d) (index-of (s .array)) (path-of-triple triple) u (sound-from d) (sound-from (s .array)) take-numbered (s .numbered) (sym long) gone back
 
+    take-unknown : is-known (index-of d) u ≡ false
+    take-unknown =
+        known-before (cells-of d) (cells-of (s .array)) (index-of d) (index-of (s .array)) (path-of-triple triple) u (sound-from d) (sound-from (s .array)) take-numbered (s .numbered) (sym long) gone back
+
     pub take-fields : Fields d (s .count - 1)
     take-fields = (omega (arith, s .few), (take-triples, (take-numbered, (omega (arith, s .counted, take-held), tt))))
 
@@ -304,11 +357,17 @@ module _ (s : LinkTable) (triple : Triple) (u : ℕ) (has : found s triple ≡ S
   pub take-done : (t : LinkTable) → length (index-of (t .array)) ≡ length (index-of (s .array)) → Removed (cells-of (s .array)) (path-of-triple triple) (cells-of (t .array))
       → take-out (cells-of (s .array)) (index-of (s .array)) (path-of-triple triple) ≡ Some (record { cells = cells-of (t .array); index = index-of (t .array) })
       → Out s triple u t
-  take-done t long removed did = record {
-    arrays-after = did;
-    had = has;
-    gone = gone (t .array) long removed;
-    others = λ q ne. other-same (t .array) long removed (path-of-triple q) (path-other q triple ne);
-    limit-same = long;
-    one-less = sym (take-held (t .array) long removed);
-  }
+  take-done t long removed did =
+      let left = gone (t .array) long removed in
+      let others : (q : Triple) → (q ≡ triple → ⊥) → found t q ≡ found s q = λ q ne. other-same (t .array) long removed (path-of-triple q) (path-other q triple ne) in
+      let is = index-of (t .array) in
+      record {
+        arrays-after = did;
+        had = has;
+        gone = left;
+        others = others;
+        gone-coded = cond-false (is-known is u) (Some (triple-of (path-of (cells-of (t .array)) is u))) None (take-unknown (t .array) long removed);
+        others-coded = λ v ne. sym (coded-others t s triple u has left (λ q other. sym (others q other)) v ne);
+        limit-same = long;
+        one-less = sym (take-held (t .array) long removed);
+      }

@@ -15,6 +15,7 @@ use Rattle.refusal.specs.declared.LinkFault.the-variants.{TriplePresent, Triple
 use Rattle.cells.specs.Cells.{at}
 use Rattle.cells.specs.Laws.{cleared}
 use Rattle.cells.specs.Placing.{enter}
+use Rattle.cells.specs.Trees.{In, Apart}
 use Rattle.cells.specs.Pruning.{take-out}
 use Rattle.cells.specs.Walking.{number-at}
 use Rattle.double_array.specs.Spellings.{is-known, path-of}
@@ -48,11 +49,19 @@ all-held s = eqb (length (numbers s)) (limit s)
 abbrev pub has-place : LinkTable → Triple → Bool
 has-place s t = isSome (enter (cells-of (s .array)) (index-of (s .array)) (path-of-triple t) 0)
 
--- number and triple are inverse, numbers are within the limit, and every path that is held is a triple's
+-- what holds of every table
 pub record Lawful (s : LinkTable) : Type 0 where
+  -- number and triple are inverse
   pub to-triple : (t : Triple) (u : ℕ) → found s t ≡ Some u → coded s u ≡ Some t
   pub to-number : (t : Triple) (u : ℕ) → coded s u ≡ Some t → found s t ≡ Some u
+  -- numbers are from 1 to the limit, which is at most 1,048,575
   pub bounds : (t : Triple) (u : ℕ) → coded s u ≡ Some t → (1 ≤ u) × (u ≤ limit s)
+  pub few : limit s ≤ 1048575
+  -- the numbers that are counted are those of the present triples, each once
+  pub counted : (u : ℕ) → isSome (coded s u) ≡ true → In (numbers s) u
+  pub present : (u : ℕ) → In (numbers s) u → isSome (coded s u) ≡ true
+  pub apart : Apart (numbers s)
+  -- every path that is held is a triple's
   pub only : (p : List ℕ) (u : ℕ) → number-at (cells-of (s .array)) p ≡ Some u → path-of-triple (triple-of p) ≡ p
 
 -- a table newly made of n cells, k index entries and so many records: every cell free but the root, every entry 0, and no triple
@@ -72,8 +81,11 @@ pub record Put (s : LinkTable) (triple : Triple) (u : ℕ) (t : LinkTable) : Typ
   pub number-low : 1 ≤ u
   pub number-high : u ≤ limit s
   pub number-open : coded s u ≡ None
+  -- it is the triple's now, and each other triple and number is as it was
   pub here : found t triple ≡ Some u
   pub others : (q : Triple) → (q ≡ triple → ⊥) → found t q ≡ found s q
+  pub here-coded : coded t u ≡ Some triple
+  pub others-coded : (v : ℕ) → (v ≡ u → ⊥) → coded t v ≡ coded s v
   pub limit-same : limit t ≡ limit s
   pub one-more : length (numbers t) ≡ length (numbers s) + 1
 
@@ -81,8 +93,11 @@ pub record Put (s : LinkTable) (triple : Triple) (u : ℕ) (t : LinkTable) : Typ
 pub record Out (s : LinkTable) (triple : Triple) (u : ℕ) (t : LinkTable) : Type 0 where
   pub arrays-after : take-out (cells-of (s .array)) (index-of (s .array)) (path-of-triple triple) ≡ Some (record { cells = cells-of (t .array); index = index-of (t .array) })
   pub had : found s triple ≡ Some u
+  -- neither is there now, and each other triple and number is as it was
   pub gone : found t triple ≡ None
   pub others : (q : Triple) → (q ≡ triple → ⊥) → found t q ≡ found s q
+  pub gone-coded : coded t u ≡ None
+  pub others-coded : (v : ℕ) → (v ≡ u → ⊥) → coded t v ≡ coded s v
   pub limit-same : limit t ≡ limit s
   pub one-less : length (numbers t) + 1 ≡ length (numbers s)
 
