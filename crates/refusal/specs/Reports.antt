@@ -16,6 +16,8 @@ use Rattle.refusal.specs.declared.PathFault.{PathFault}
 use Rattle.refusal.specs.declared.PathFault.the-variants.{Path, Number, Blocked, NoPlace as NotPlaced}
 use Rattle.refusal.specs.declared.NumberFault.{NumberFault}
 use Rattle.refusal.specs.declared.NumberFault.the-variants.{Unknown, Short as TooShort}
+use Rattle.refusal.specs.declared.LinkFault.{LinkFault}
+use Rattle.refusal.specs.declared.LinkFault.the-variants.{TriplePresent as IsPresent, TripleAbsent as IsAbsent, NoPlace as NoCell, NumbersHeld as AllHeld, UnknownLink as NoLink}
 use Rattle.refusal.specs.declared.ListFault.{ListFault}
 use Rattle.refusal.specs.declared.ListFault.the-variants.{WordLength as NotSized, UnknownWord as NotHeld, NoRoom as Full, OutputTooShort as Short}
 
@@ -56,6 +58,14 @@ path-refusal NotPlaced = Full
 abbrev pub number-refusal : NumberFault → ListFault
 number-refusal Unknown = NotHeld
 number-refusal TooShort = Short
+
+-- what the link table refuses
+abbrev pub link-refusal : LinkFault → Refusal
+link-refusal IsPresent = TriplePresent
+link-refusal IsAbsent = TripleAbsent
+link-refusal NoCell = NoPlace
+link-refusal AllHeld = NumbersHeld
+link-refusal NoLink = UnknownLink
 
 -- the number of a layer
 abbrev pub layer-number : Layer → ℕ

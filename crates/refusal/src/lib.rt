@@ -5,7 +5,7 @@
 // The rules stand in docs/REFUSALS.md.
 ghost use mathlib.Core.Path.{_≡_};
 ghost use Rattle.refusal.specs.declared.Side.the-variants.{Neither};
-ghost use Rattle.refusal.specs.Reports.{report-of, report-text, spell-refusal, list-refusal, path-refusal, number-refusal};
+ghost use Rattle.refusal.specs.Reports.{report-of, report-text, spell-refusal, list-refusal, path-refusal, number-refusal, link-refusal};
 ghost use Rattle.std.specs.declared.option.Option.the-variants.{Some};
 use std::fmt;
 
@@ -79,6 +79,21 @@ pub enum ListFault {
     NoRoom,
     // The output is shorter than the word: lend one of 128 bytes.
     OutputTooShort,
+}
+
+// A call of the link table.
+#[derive(Clone, Copy, PartialEq, Eq, Debug)]
+pub enum LinkFault {
+    // The triple is present already.
+    TriplePresent,
+    // The triple is not present.
+    TripleAbsent,
+    // The cells have no place for the triple's code: make a larger cell array.
+    NoPlace,
+    // All link numbers are held: delete a triple, or make a larger index and more records.
+    NumbersHeld,
+    // No present triple has the link number.
+    UnknownLink,
 }
 
 // Entering a path into a double array, in the order in which it is judged.
@@ -169,6 +184,20 @@ pub impl From<ListFault> for Refusal as RefusalFromList {
 
     fn from(list_fault: ListFault) -> Refusal {
         list_fault.at(Side::Neither)
+    }
+}
+
+pub impl From<LinkFault> for Refusal as RefusalFromLink {
+    ghost converts = { λ e r. r ≡ link-refusal e };
+
+    fn from(link_fault: LinkFault) -> Refusal {
+        match link_fault {
+            LinkFault::TriplePresent => Refusal::TriplePresent,
+            LinkFault::TripleAbsent => Refusal::TripleAbsent,
+            LinkFault::NoPlace => Refusal::NoPlace,
+            LinkFault::NumbersHeld => Refusal::NumbersHeld,
+            LinkFault::UnknownLink => Refusal::UnknownLink,
+        }
     }
 }
 
