@@ -12,3 +12,6 @@ mod triple;
 
 pub use table::LinkTable;
 pub use triple::Triple;
+pub use triple::TripleDebug;
+pub use triple::TripleEq;
+pub use triple::TriplePartialEq;
