@@ -3,6 +3,8 @@
 // This crate knows cells, codes 1 to 257, paths, leaf numbers and the leaf index. It knows nothing
 // of words or triples, and it has no code that works on cells: specs/ defines the rules, in the
 // order in which docs/CELLS.md tells them, and the contracts below are the theorems about them.
+#![tactic(auto)]
+
 ghost use Rattle.cells.specs.Laws.{Starting, Unused, Walking, Climbing, Indexing, Counting};
 ghost use Rattle.cells.specs.Laws.{Searching, Relocating, Entering, Moving, Undoing, TakingBack, Taking};
 ghost use Rattle.cells.specs.Examples.{Examples};

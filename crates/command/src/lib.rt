@@ -3,6 +3,8 @@
 // This crate knows the six commands as they stand in a line: a letter, and fields parted by tabs.
 // It does not know what a command does, which words a list has, or what is answered.
 // The rules stand in docs/LINES.md.
+#![tactic(auto)]
+
 ghost use Rattle.std.specs.Prelude.{◌≡◌, ℕ, ◌^◌, ◌<◌, ◌≤◌, ◌≢◌, [], ◌∷◌, length, IfSome, Some, None, MatchOption, MatchResult};
 ghost use Rattle.std.specs.Option.{option_map};
 ghost use Rattle.refusal.specs.declared.Refusal.TheVariants.{MalformedLine};

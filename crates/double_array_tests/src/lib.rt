@@ -1,4 +1,5 @@
 // Runs of the double array on small examples.
+#![tactic(auto)]
 
 #[cfg(test)]
 mod tests {

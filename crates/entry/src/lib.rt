@@ -2,6 +2,8 @@
 //
 // This crate knows scripts and lists by their interfaces, and nothing of arrays or cells.
 // The rules stand in docs/WORD_LISTS.md, "Entering a word of a script".
+#![tactic(auto)]
+
 ghost use Rattle.std.specs.Prelude.{◌≡◌, ◌≤◌, true, ◌&&◌, length, Some};
 ghost use Rattle.std.specs.Option.{option_map};
 ghost use Rattle.lexicon.specs.Answers.{is_new, EnterLeaves};

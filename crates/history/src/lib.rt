@@ -5,6 +5,8 @@
 // proof that the law holds after every run of calls that keep their rules.
 // It has no code of a call: that is crate `store`. The rules stand in docs/STORE.md, the law in
 // docs/LAW.md.
+#![tactic(auto)]
+
 mod replies;
 
 pub use replies::{Figures, Link, Reading, Reply};

@@ -3,6 +3,8 @@
 // This crate knows the roll, which is a list's words in the order of their numbers, and the two
 // interfaces: a readable list, and a growing list, which is a readable list that also takes new
 // words. It knows nothing of arrays, cells or scripts. The rules stand in docs/WORD_LISTS.md.
+#![tactic(auto)]
+
 ghost use Rattle.std.specs.Prelude.{◌≡◌, ℕ, ◌≤◌, Bool, List, length, IfOk};
 ghost use Rattle.lexicon.specs.Rolls.{Lawful, label_sized};
 ghost use Rattle.lexicon.specs.Answers.{find_answer, word_answer, word_output, enter_answer, is_new, EnterLeaves};

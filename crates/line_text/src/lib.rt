@@ -3,6 +3,8 @@
 // This crate knows the answers that a line can get and how each is written, with numbers in decimal.
 // It does not know how a line is read, what a command does, or where the text goes.
 // The rules stand in docs/LINES.md.
+#![tactic(auto)]
+
 ghost use Rattle.std.specs.Prelude.{◌≡◌, ◌+◌, ◌<◌, ◌≤◌, length, if◌then◌else◌, Some, None, decimal, nat_le};
 ghost use Rattle.std.specs.List.{flat_map};
 ghost use Rattle.refusal.specs.Reports.{layer_number, side_number};

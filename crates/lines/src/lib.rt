@@ -3,6 +3,8 @@
 // This crate joins the commands of lines, the calls of the store and the texts that are printed. It
 // knows nothing of where lines come from and where texts go. Every command but a share goes through
 // `perform_growing`, which carries the law of every history. The rules stand in docs/LINES.md.
+#![tactic(auto)]
+
 mod answering;
 mod listing_rows;
 

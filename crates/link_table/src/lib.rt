@@ -3,6 +3,8 @@
 // This crate knows triples of two word numbers and a relation, their codes of five labels, link
 // numbers, and one double array with its index. It knows nothing of words, scripts or records but
 // how many records there are. The rules stand in docs/LINKS.md.
+#![tactic(auto)]
+
 mod changing;
 mod codes;
 mod numbers;

@@ -1,4 +1,5 @@
 // Tests of the link table on small arrays.
+#![tactic(auto)]
 
 #[cfg(test)]
 mod tests {

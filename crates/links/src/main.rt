@@ -2,6 +2,8 @@
 //
 // A line ends with a line feed; what stands after the last feed is ignored. docs/LINES.md has the
 // commands and the answers. The program only reads lines and writes what `perform_line` says.
+#![tactic(auto)]
+
 use cells::Cell;
 use lines::perform_line;
 use record::Tally;

@@ -3,6 +3,8 @@
 //
 // This crate knows word numbers, relations and the cells of a link table. It knows nothing of words,
 // scripts or records, changes no table and allocates nothing. The rules stand in docs/LINKS.md.
+#![tactic(auto)]
+
 mod beginning;
 mod row;
 mod writing;

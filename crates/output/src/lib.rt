@@ -2,6 +2,8 @@
 //
 // This crate knows slices and places in them, and nothing of what is written.
 // The rule stands in docs/WORD_LISTS.md, "Outputs".
+#![tactic(auto)]
+
 ghost use Rattle.std.specs.Prelude.{◌≡◌, ◌+◌, length, if◌then◌else◌, Some, None};
 ghost use Rattle.output.specs.Written.{fits, written};
 

@@ -4,6 +4,8 @@
 // another cell now, the cell before and after and what reading the number gives. Then it deletes a
 // pair, changes a record, ties pairs again, and prints what every number gives, and at the end the
 // figures.
+#![tactic(auto)]
+
 use cells::Cell;
 use history::Reply;
 use lexicon::ReadableList;

@@ -3,6 +3,8 @@
 //
 // This crate knows bytes and lengths, and nothing of cells, scripts or links.
 // The rules stand in docs/WORD_LISTS.md, "The plain list".
+#![tactic(auto)]
+
 mod calls;
 mod list;
 mod search;

@@ -2,6 +2,8 @@
 //
 // This crate knows tallies and scores. It knows nothing of tables, words or links.
 // The rules stand in docs/RECORDS.md.
+#![tactic(auto)]
+
 ghost use Rattle.std.specs.Prelude.{◌≡◌, Bool, ◌&&◌};
 ghost use Rattle.std.specs.Float.Ieee.{le};
 ghost use Rattle.record.specs.Soundness.{sound_tally, sound_score, NanUnsound};

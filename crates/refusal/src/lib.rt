@@ -3,6 +3,8 @@
 // This crate knows the twelve refusals, each with its number, its layer and its side, and the fault
 // types of the layers that lead to them. It knows nothing of scripts, words, cells or links.
 // The rules stand in docs/REFUSALS.md.
+#![tactic(auto)]
+
 ghost use Rattle.std.specs.Prelude.{◌≡◌, Some};
 ghost use Rattle.refusal.specs.declared.Side.TheVariants.{Neither};
 ghost use Rattle.refusal.specs.Reports.{report_of, report_text, spell_refusal, list_refusal, path_refusal, number_refusal, link_refusal};

@@ -4,6 +4,8 @@
 // eight, over a list that grows. Both say by the calls' own rules what is answered and left, and both
 // carry the law: whatever history of calls led from a new store to this one, refused ones included,
 // the law holds after this call too. The rules stand in docs/STORE.md, the law in docs/LAW.md.
+#![tactic(auto)]
+
 mod performing;
 mod request;
 

@@ -4,6 +4,8 @@
 // labels. It knows nothing of lists, cells or numbers of words; what stands above it uses the
 // spelled word and that no two words are spelled alike, and never how many labels a symbol has.
 // The rules stand in docs/SCRIPTS.md.
+#![tactic(auto)]
+
 ghost use Rattle.std.specs.Prelude.{◌≡◌, ℕ, ◌≤◌, List, length, IfOk};
 ghost use Rattle.script.specs.Words.{word_sized, spell_answer, spell_output, WordsApart};
 ghost use Rattle.script.specs.Spellings.{labels_of};

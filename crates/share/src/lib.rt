@@ -2,6 +2,8 @@
 //
 // This crate knows tallies, and a store by its link table, its list and its calls. It knows nothing of
 // cells, changes nothing and allocates nothing. The rules stand in docs/SHARES.md.
+#![tactic(auto)]
+
 mod counts;
 mod rounding;
 #[cfg(test)]

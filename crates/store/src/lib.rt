@@ -5,6 +5,8 @@
 // that they need. This crate knows scripts, lists and record types by their interfaces only, and
 // cells not at all. Crate `requests` makes any call by a request, and carries the law of every
 // history. The rules stand in docs/STORE.md.
+#![tactic(auto)]
+
 mod changing;
 mod labels;
 mod linking;

@@ -1,4 +1,5 @@
 // Tests of the store's calls: refusals in their order, and stores at their limits.
+#![tactic(auto)]
 
 #[cfg(test)]
 mod limits;

@@ -3,6 +3,8 @@
 // Each function makes the link table of a new store over a list, whatever words it holds, and its
 // records, and shows with no condition that a history begins there and that the law holds. From then
 // on `perform` and `perform_growing` of crate `store` lead every history on.
+#![tactic(auto)]
+
 ghost use Rattle.std.specs.Prelude.{[]};
 ghost use Rattle.history.specs.Kits.{state_of};
 ghost use Rattle.history.specs.Runs.{Reached};

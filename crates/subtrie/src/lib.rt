@@ -2,6 +2,8 @@
 //
 // This crate reads the cells of a double array by two walks that call each other, one over cells
 // and one over edges. It knows nothing of words, and it changes no cell.
+#![tactic(auto)]
+
 mod room;
 mod writing;
 

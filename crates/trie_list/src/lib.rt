@@ -2,6 +2,8 @@
 //
 // This crate knows words as paths of labels with an end sign, and nothing of triples.
 // The rules stand in docs/WORD_LISTS.md, "The trie list".
+#![tactic(auto)]
+
 mod calls;
 mod list;
 mod spelling;

@@ -4,6 +4,7 @@
 // the layer and the side of the refusal. A line that begins with a question mark asks for the words
 // that begin with the rest of the line: it prints each with its number, and then `end` and how many.
 // At the end of the input it prints how many words and labels the list holds.
+#![tactic(auto)]
 
 use cells::Cell;
 use entry::{beginning_of, enter_word, labels_held, line_text, reply_to};
