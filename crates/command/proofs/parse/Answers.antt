@@ -18,8 +18,8 @@ returns-in-None c =
     let tab : get_or line 1 0 ≡ 9 = search rules in
     record { command = (refl, sym (line_asks line short tab c.from.result c.from.ensures) ∙ sym c.in-None.ensures); lines = one_to_one; numbers = reads_back }
 
-pub returns-then-line-gt-LINE-BYTES : goal.returns-then-line-gt-LINE-BYTES
-returns-then-line-gt-LINE-BYTES c = record { command = (refl, line_long c.args.line.now (omega arith)); lines = one_to_one; numbers = reads_back }
+pub returns-then-line-gt-LINE_BYTES : goal.returns-then-line-gt-LINE_BYTES
+returns-then-line-gt-LINE_BYTES c = record { command = (refl, line_long c.args.line.now (omega arith)); lines = one_to_one; numbers = reads_back }
 
 pub returns-in-default : goal.returns-in-default
 returns-in-default c = record { command = search rules; lines = one_to_one; numbers = reads_back }

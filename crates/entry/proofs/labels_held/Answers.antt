@@ -10,13 +10,13 @@ pub loop-index-preserved : goal.loop-index-preserved
 loop-index-preserved g c =
     let roll = g.L.ReadableList.roll c.args.list.now in
     let i = c.loop-index.index in (
-      omega (arith, c.labels-of-labels.ensures.few, c.loop-index.invariant.0),
+      omega (arith, c.labels_of-labels.ensures.few, c.loop-index.invariant.0),
       λ ok.
           let within : i < length roll = omega (arith, c.count-index-end.ensures ok, c.loop-index-test.true) in
           let some : numbered roll (i + 1) ≡ true = and_from (leb 1 (i + 1)) (leb (i + 1) (length roll)) (le-leb 1 (i + 1) (omega arith)) (le-leb (i + 1) (length roll) (omega arith)) in
           let here : i + 1 - 1 ≡ i = omega arith in
           let same = ap (λ (k : ℕ). length (get_or roll k [])) here in
-          omega (arith, c.loop-index.invariant.1 ok, c.labels-of-labels.ensures.labels ok some, same, sum_by_more length roll i [] within),
+          omega (arith, c.loop-index.invariant.1 ok, c.labels_of-labels.ensures.labels ok some, same, sum_by_more length roll i [] within),
     )
 
 pub returns : goal.returns

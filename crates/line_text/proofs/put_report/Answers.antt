@@ -8,8 +8,8 @@ pub returns : goal.returns
 returns c =
     let n = c.args.report.number in
     let same =
-    ap (λ (z : ℕ). codes "no\t" ++ three_text n z c.side-number-side.result) (sym c.layer-number-layer.ensures) in
+    ap (λ (z : ℕ). codes "no\t" ++ three_text n z c.side_number-side.result) (sym c.layer_number-layer.ensures) in
     let other =
-    ap (λ (z : ℕ). codes "no\t" ++ three_text n (layer_number c.args.report.layer) z) (sym c.side-number-side.ensures) in
+    ap (λ (z : ℕ). codes "no\t" ++ three_text n (layer_number c.args.report.layer) z) (sym c.side_number-side.ensures) in
     wrote_as c.args.out.now 0 _ _ _ _ (other ∙ same)
-    (wrote_more c.args.out.now 0 (codes "no\t") _ _ _ _ _ (omega arith) c.put-text-at.ensures c.put-three.ensures.wrote)
+    (wrote_more c.args.out.now 0 (codes "no\t") _ _ _ _ _ (omega arith) c.put_text-at.ensures c.put_three.ensures.wrote)

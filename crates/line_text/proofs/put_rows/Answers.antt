@@ -17,7 +17,7 @@ pub loop-row-preserved : goal.loop-row-preserved
 loop-row-preserved c =
     let l = c.loop-row in
     let rows = c.args.rows.now in
-    let three = c.put-three-at.ensures in (
+    let three = c.put_three-at.ensures in (
       wrote_as c.args.out.now 0 _ _ _ _ (rows_more rows l.row-index _ c.loop-row-test.true)
           (wrote_more c.args.out.now 0 (flat_map row_text (take l.row-index rows)) _ _ _ _ _ (omega (arith, l.invariant.0.ends, l.invariant.1)) l.invariant.0 three.wrote),
       omega (arith, three.short, l.invariant.1),

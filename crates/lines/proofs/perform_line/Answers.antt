@@ -15,18 +15,18 @@ fits_in out text after n e same is = let k = ap length e ∙ length-append text 
 pub returns-in-Some : goal.returns-in-Some
 returns-in-Some c =
     let out = c.args.out.now in
-    let text = answer_text c.answer-line-answer.result in
+    let text = answer_text c.answer_line-answer.result in
     let m = c.in-Some.ensures in
-    let long : leb 4096 (length out) ≡ true = le-leb 4096 (length out) c.if-out-lt-TEXT-BYTES.false in
+    let long : leb 4096 (length out) ≡ true = le-leb 4096 (length out) c.if-out-lt-TEXT_BYTES.false in
     let size = m.size ∙ cond-true (leb 4096 (length out)) (Some (length text)) None long in
     let all = m.after ∙ cond-true (leb 4096 (length out)) (written out 0 text) out long in
     record {
       short = λ few. absurd (omega arith);
       carried = λ _. (
         text,
-        c.answer-line-answer.ensures,
+        c.answer_line-answer.ensures,
         ap (λ (n : ℕ). Ok n) (same_some c.in-Some.size (length text) size),
         all,
       );
-      within = fits_in out text c.write-answer.new.out c.in-Some.size all c.write-answer.auto.out (same_some c.in-Some.size (length text) size);
+      within = fits_in out text c.write_answer.new.out c.in-Some.size all c.write_answer.auto.out (same_some c.in-Some.size (length text) size);
     }

@@ -9,7 +9,7 @@ pub returns-then-count-out : goal.returns-then-count-out
 returns-then-count-out c =
     let t = c.args.table.now in
     record {
-      output = (omega (arith, c.list-rows-count.ensures.ends, c.if-count-out.true), refl);
+      output = (omega (arith, c.list_rows-count.ensures.ends, c.if-count-out.true), refl);
       members = members t c.args.x c.args.relation;
       order = rising t c.args.x c.args.relation;
     }
@@ -18,7 +18,7 @@ pub returns : goal.returns
 returns c =
     let t = c.args.table.now in
     record {
-      output = placed_filled (rows_of t c.args.x c.args.relation) c.args.out.now _ _ (omega (arith, c.list-rows-count.ensures.ends, c.if-count-out.false)) c.list-rows.ensures;
+      output = placed_filled (rows_of t c.args.x c.args.relation) c.args.out.now _ _ (omega (arith, c.list_rows-count.ensures.ends, c.if-count-out.false)) c.list_rows.ensures;
       members = members t c.args.x c.args.relation;
       order = rising t c.args.x c.args.relation;
     }

@@ -13,5 +13,5 @@ returns g c =
     let fit : fits out at items ≡ true = le-leb _ _ room in
     record {
       end = sym (cond-true _ _ _ fit);
-      after = written_part out at items _ c.copy-from-slice.ensures.after ∙ sym (cond-true _ _ _ fit);
+      after = written_part out at items _ c.copy_from_slice.ensures.after ∙ sym (cond-true _ _ _ fit);
     }

@@ -7,10 +7,10 @@ use Rattle.script.specs.Words.{spelled, word_sized}
 use Rattle.script.proofs.Apart.{size_bounds, spelled_more, words_apart}
 use Rattle.script.proofs.spell_word.Goals as goal
 
-pub returns-then-not-has-word-size : goal.returns-then-not-has-word-size
-returns-then-not-has-word-size g c =
+pub returns-then-not-has_word_size : goal.returns-then-not-has_word_size
+returns-then-not-has_word_size g c =
     let m = g.met.S.Script in
-    let none : word_sized c.args.word.now ≡ false = sym c.if-not-has-word-size.ensures in
+    let none : word_sized c.args.word.now ≡ false = sym c.if-not-has_word_size.ensures in
     record {
       answer = sym (cond-false _ _ _ none);
       output = sym (cond-false _ _ _ none);
@@ -28,13 +28,13 @@ loop-symbol-preserved g c =
     let out = c.args.out.now in
     let word = c.args.word.now in
     let x = c.symbol-item.result in
-    let labels = c.as-slice.result.now in
+    let labels = c.as_slice.result.now in
     let front = spelled f (take l.symbol-index word) in
     let step = spelled_more f word l.symbol-index x (omega arith) c.symbol-item.is in
-    let same : labels ≡ f x = c.as-slice.ensures ∙ c.spell-labels.ensures in
+    let same : labels ≡ f x = c.as_slice.ensures ∙ c.spell-labels.ensures in
     let wide = ap length same ∙ g.met.S.Script.even x in
     let narrow = g.met.S.Script.narrow in
-    let few = (size_bounds word (sym c.if-not-has-word-size.ensures)).1 in
+    let few = (size_bounds word (sym c.if-not-has_word_size.ensures)).1 in
     let long : length out ≡ 128 = search rules in
     let room : l.at + length labels ≤ length l.out = omega (arith, wide, narrow.1, few, l.invariant.2, l.invariant.4) in
     let fit : fits l.out l.at labels ≡ true = le-leb _ _ room in
@@ -54,7 +54,7 @@ pub returns : goal.returns
 returns g c =
     let m = g.met.S.Script in
     let l = c.loop-symbol in
-    let some : word_sized c.args.word.now ≡ true = sym c.if-not-has-word-size.ensures in
+    let some : word_sized c.args.word.now ≡ true = sym c.if-not-has_word_size.ensures in
     let sizes = size_bounds c.args.word.now some in
     let all = ap (spelled g.S.Script.spelling) (take_all l.symbol-index c.args.word.now (omega arith)) in
     record {

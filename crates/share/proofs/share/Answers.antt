@@ -42,7 +42,7 @@ returns g c =
     let link = c.in-ok-link.link in
     let total = c.total-total.ensures.sum ∙ ap (λ (s : LinkTable). total_of s rs link.x q) c.links.ensures in
     let answer : g.L.ReadableList.sound l → Ok c.millionths.result ≡ share_answer t rs q (link_answer K l t x y q) =
-    λ ok. share_is K l t rs x y q link (c.in-ok-link.ensures ok) c.millionths.result c.count-at-count.result c.total-total.result c.count-at-count.ensures total c.millionths.ensures in
+    λ ok. share_is K l t rs x y q link (c.in-ok-link.ensures ok) c.millionths.result c.count_at-count.result c.total-total.result c.count_at-count.ensures total c.millionths.ensures in
     record {
       answer = answer;
       nearest = nearest;

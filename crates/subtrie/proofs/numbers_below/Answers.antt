@@ -11,7 +11,7 @@ returns c =
     let p = c.args.beginning.now in
     let l = listed (cells_of d) (index_of d) (sound_from d) p in
     record {
-      output = subst (λ cs. Filled (numbers_from cs p) c.args.out.now c.write-from.result c.write-from.new.out) c.cells.ensures c.write-from.ensures;
+      output = subst (λ cs. Filled (numbers_from cs p) c.args.out.now c.write_from.result c.write_from.new.out) c.cells.ensures c.write_from.ensures;
       paths = l;
       members = members (cells_of d) p (numbers_from (cells_of d) p) l;
       order = ordered (cells_of d) p (numbers_from (cells_of d) p) l (index_of d) (sound_from d);

@@ -1,7 +1,7 @@
 use Rattle.std.proofs.Common.{is_some, sym, ap, ◌∙◌, arith}
 use Rattle.double_array.proofs.Codes.{codes_none, codes_more, codes_same}
 use Rattle.double_array.proofs.edges.child_codes.Goals as goal
-use Rattle.double_array.proofs.edges.child_codes.Goals.{then-is-some, else-is-some}
+use Rattle.double_array.proofs.edges.child_codes.Goals.{then-is_some, else-is_some}
 
 pub loop-code-init : goal.loop-code-init
 loop-code-init c = (omega arith, sym (codes_none _ _))
@@ -9,10 +9,10 @@ loop-code-init c = (omega arith, sym (codes_none _ _))
 pub loop-code-preserved : goal.loop-code-preserved
 loop-code-preserved c =
     let l = c.loop-code in
-    let told = sym (ap is_some c.child.ensures) ∙ sym c.is-some.ensures in
-    elim c.if-is-some.branch [
-      | then-is-some w ↦
-          (omega (arith, w.n-is), simp (w.n-is, w.out-is) (codes_more _ _ l.code l.n l.out (omega arith) l.invariant.1 (omega arith) (told ∙ w.if-is-some.true)))
-      | else-is-some w ↦
-          (omega (arith, w.n-is), simp (w.n-is, w.out-is) (codes_same _ _ l.code l.n l.out (omega arith) l.invariant.1 (told ∙ w.if-is-some.false)))
+    let told = sym (ap is_some c.child.ensures) ∙ sym c.is_some.ensures in
+    elim c.if-is_some.branch [
+      | then-is_some w ↦
+          (omega (arith, w.n-is), simp (w.n-is, w.out-is) (codes_more _ _ l.code l.n l.out (omega arith) l.invariant.1 (omega arith) (told ∙ w.if-is_some.true)))
+      | else-is_some w ↦
+          (omega (arith, w.n-is), simp (w.n-is, w.out-is) (codes_same _ _ l.code l.n l.out (omega arith) l.invariant.1 (told ∙ w.if-is_some.false)))
     ]

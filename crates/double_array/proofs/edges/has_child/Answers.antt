@@ -7,11 +7,11 @@ pub loop-code-init : goal.loop-code-init
 loop-code-init c = codes_none _ _
 
 pub loop-code-preserved : goal.loop-code-preserved
-loop-code-preserved c = codes_still _ _ _ (omega arith) c.loop-code.invariant (sym (c.if-is-some.ensures ∙ ap is_some c.child.ensures))
+loop-code-preserved c = codes_still _ _ _ (omega arith) c.loop-code.invariant (sym (c.if-is_some.ensures ∙ ap is_some c.child.ensures))
 
-pub returns-then-is-some : goal.returns-then-is-some
-returns-then-is-some c =
-    sym (some_after _ _ c.loop-code.code 258 (omega arith) c.loop-code-test.true (sym (c.if-is-some.ensures ∙ ap is_some c.child.ensures)))
+pub returns-then-is_some : goal.returns-then-is_some
+returns-then-is_some c =
+    sym (some_after _ _ c.loop-code.code 258 (omega arith) c.loop-code-test.true (sym (c.if-is_some.ensures ∙ ap is_some c.child.ensures)))
 
 pub returns : goal.returns
 returns c =

@@ -14,8 +14,8 @@ returns-then-cells-lt2 c =
     let is = c.args.index.now in
     let p = c.args.path.now in
     let u = c.args.number in
-    let path = sym c.if-not-is-path.ensures in
-    let number = sym c.if-not-is-open.ensures in
+    let path = sym c.if-not-is_path.ensures in
+    let number = sym c.if-not-is_open.ensures in
     (judged_by cs is p u path number (short_new cs is (omega arith) p (some_of cs is p u path number)) None (short_none cs is (omega arith) p (u - 1) (codes_of cs is p u path number)), refl, refl)
 
 pub returns-then-i-path : goal.returns-then-i-path
@@ -24,15 +24,15 @@ returns-then-i-path c =
     let is = c.args.index.now in
     let p = c.args.path.now in
     let u = c.args.number in
-    let path = sym c.if-not-is-path.ensures in
-    let number = sym c.if-not-is-open.ensures in
+    let path = sym c.if-not-is_path.ensures in
+    let number = sym c.if-not-is_open.ensures in
     let s = c.follow-s.result.0 in
     let i = c.follow-s.result.1 in
     let node = c.follow-s.ensures.node in
     let left = c.follow-s.ensures.rest in
     elim c.then-i-path.branch [
       | then-i-path-via-then-i-path w ↦ (blocked cs is p u path number (at_end cs is p u path number s (drop i p) node left (omega (arith, length-drop i p, w.if-i-path.true))), refl, refl)
-      | then_i_path_via_else_i_path+then_is_leaf w ↦ (blocked cs is p u path number (at_leaf cs is p u path number s (drop i p) node left w.if-is-leaf.ensures), refl, refl)
+      | then_i_path_via_else_i_path+then_is_leaf w ↦ (blocked cs is p u path number (at_leaf cs is p u path number s (drop i p) node left w.if-is_leaf.ensures), refl, refl)
     ]
 
 pub extend-requires : goal.extend-requires
@@ -41,15 +41,15 @@ extend-requires c =
     let is = c.args.index.now in
     let p = c.args.path.now in
     let u = c.args.number in
-    let path = sym c.if-not-is-path.ensures in
-    let number = sym c.if-not-is-open.ensures in
+    let path = sym c.if-not-is_path.ensures in
+    let number = sym c.if-not-is_open.ensures in
     let s = c.follow-s.result.0 in
     let i = c.follow-s.result.1 in
     let node = c.follow-s.ensures.node in
     let rest : List ℕ = take (length p - i) (drop i p) in
     let left : rest ≡ (follow cs 1 p).rest = take_rest p i ∙ c.follow-s.ensures.rest in
     let some : 0 < length rest = omega (arith, ap length (take_rest p i), length-drop i p, c.follow-s.ensures.short, c.if-i-path.false) in
-    let inner : is_leaf cs s ≡ false = sym c.if-is-leaf.ensures in
+    let inner : is_leaf cs s ≡ false = sym c.if-is_leaf.ensures in
     let root : parent cs 1 ≡ 1 = ap nat (c.requires.sound.rooted (omega arith)) in
     let bounds = (and_parts _ _ number).0 in
     record {
@@ -72,15 +72,15 @@ returns-then-extend c =
     let is = c.args.index.now in
     let p = c.args.path.now in
     let u = c.args.number in
-    let path = sym c.if-not-is-path.ensures in
-    let number = sym c.if-not-is-open.ensures in
+    let path = sym c.if-not-is_path.ensures in
+    let number = sym c.if-not-is_open.ensures in
     let s = c.follow-s.result.0 in
     let i = c.follow-s.result.1 in
     let node = c.follow-s.ensures.node in
     let rest : List ℕ = take (length p - i) (drop i p) in
     let left : rest ≡ (follow cs 1 p).rest = take_rest p i ∙ c.follow-s.ensures.rest in
     let some : 0 < length rest = omega (arith, ap length (take_rest p i), length-drop i p, c.follow-s.ensures.short, c.if-i-path.false) in
-    let inner : is_leaf cs s ≡ false = sym c.if-is-leaf.ensures in
+    let inner : is_leaf cs s ≡ false = sym c.if-is_leaf.ensures in
     let done = entered cs is p u path number s rest node left some inner ∙ c.if-extend.ensures in
     (judged_by cs is p u path number (leaves cs is p u path number s rest node left some inner) _ done, done)
 
@@ -90,14 +90,14 @@ returns-else-extend c =
     let is = c.args.index.now in
     let p = c.args.path.now in
     let u = c.args.number in
-    let path = sym c.if-not-is-path.ensures in
-    let number = sym c.if-not-is-open.ensures in
+    let path = sym c.if-not-is_path.ensures in
+    let number = sym c.if-not-is_open.ensures in
     let s = c.follow-s.result.0 in
     let i = c.follow-s.result.1 in
     let node = c.follow-s.ensures.node in
     let rest : List ℕ = take (length p - i) (drop i p) in
     let left : rest ≡ (follow cs 1 p).rest = take_rest p i ∙ c.follow-s.ensures.rest in
     let some : 0 < length rest = omega (arith, ap length (take_rest p i), length-drop i p, c.follow-s.ensures.short, c.if-i-path.false) in
-    let inner : is_leaf cs s ≡ false = sym c.if-is-leaf.ensures in
+    let inner : is_leaf cs s ≡ false = sym c.if-is_leaf.ensures in
     let none = c.if-extend.ensures in
     (judged_by cs is p u path number (leaves cs is p u path number s rest node left some inner) None (entered cs is p u path number s rest node left some inner ∙ none.0), none.1, none.2)

@@ -14,14 +14,14 @@ undo-requires c =
     let l = c.loop-i in
     let cs = c.args.cells.now in
     let s = c.args.s in
-    let b = c.cell-number-before.result in
+    let b = c.cell_number-before.result in
     let low : b ≡ base_of cs s = search rules in
-    let same : c.give-child.new.cells ≡ l.cells = c.in-None.ensures.place.1 in
+    let same : c.give_child.new.cells ≡ l.cells = c.in-None.ensures.place.1 in
     let way = undoable cs c.args.index.now s c.args.codes.now c.requires.sound c.requires.node c.requires.missing l.i c.loop-i-test.true
     (record { cells = l.cells; index = l.index; spot = l.tip }) (l.invariant.2 c.loop-i-test.true) in
     let few : b < 2147483648 = search rules in
-    let room : (k : ℕ) → k < length (child_codes (freed_up l.i c.give-child.new.cells l.tip) s) → b + get_or (child_codes (freed_up l.i c.give-child.new.cells l.tip) s) k 0 < length cs =
-    subst (λ x. (k : ℕ) → k < length (child_codes (freed_up l.i c.give-child.new.cells l.tip) s) → x + get_or (child_codes (freed_up l.i c.give-child.new.cells l.tip) s) k 0 < length cs) (sym low)
+    let room : (k : ℕ) → k < length (child_codes (freed_up l.i c.give_child.new.cells l.tip) s) → b + get_or (child_codes (freed_up l.i c.give_child.new.cells l.tip) s) k 0 < length cs =
+    subst (λ x. (k : ℕ) → k < length (child_codes (freed_up l.i c.give_child.new.cells l.tip) s) → x + get_or (child_codes (freed_up l.i c.give_child.new.cells l.tip) s) k 0 < length cs) (sym low)
     (subst (λ xs. (k : ℕ) → k < length (child_codes (freed_up l.i xs l.tip) s) → base_of cs s + get_or (child_codes (freed_up l.i xs l.tip) s) k 0 < length cs) (sym same) way.room) in
     record {
       room = omega arith;
@@ -40,9 +40,9 @@ returns-in-None c =
     let s = c.args.s in
     let codes = c.args.codes.now in
     let n = c.args.number - 1 in
-    let z = to_z w32 (of_z w32 c.leaf-base-leaf.result) in
-    let number : z ≡ negsuc n = to_z-of_z w32 c.leaf-base-leaf.result (search rules) ∙ c.leaf-base-leaf.ensures in
-    let low : c.cell-number-before.result ≡ base_of cs s = search rules in
+    let z = to_z w32 (of_z w32 c.leaf_base-leaf.result) in
+    let number : z ≡ negsuc n = to_z-of_z w32 c.leaf_base-leaf.result (search rules) ∙ c.leaf_base-leaf.ensures in
+    let low : c.cell_number-before.result ≡ base_of cs s = search rules in
     let r : Spot = record { cells = l.cells; index = l.index; spot = l.tip } in
     let base : c.if-i-codes.base ≡ step_base (drop (l.i + 1) codes) z =
     elim c.if-i-codes.branch [
@@ -54,8 +54,8 @@ returns-in-None c =
     let way = undoable cs is s codes c.requires.sound c.requires.node c.requires.missing l.i c.loop-i-test.true r (l.invariant.2 c.loop-i-test.true) in
     let back : record { cells = c.undo.new.cells; index = c.undo.new.index } ≡ record { cells = cs; index = is } =
     c.undo.ensures
-    ∙ ap (λ (x : List Cell). undo x c.give-child.new.index s c.cell-number-before.result l.i l.tip) none.1
-    ∙ ap (λ (x : List ℕ). undo l.cells x s c.cell-number-before.result l.i l.tip) none.2
+    ∙ ap (λ (x : List Cell). undo x c.give_child.new.index s c.cell_number-before.result l.i l.tip) none.1
+    ∙ ap (λ (x : List ℕ). undo l.cells x s c.cell_number-before.result l.i l.tip) none.2
     ∙ ap (λ b. undo l.cells l.index s b l.i l.tip) low ∙ way.back in (
       extended_is codes cs is s n None c.requires.some (ap (λ y. grow_on codes y (record { cells = cs; index = is; spot = s })) (sym number) ∙ sym stuck),
       ap (λ (x : Arrays). x.cells) back,
@@ -69,9 +69,9 @@ loop-i-preserved c =
     let is = c.args.index.now in
     let s = c.args.s in
     let codes = c.args.codes.now in
-    let z = to_z w32 (of_z w32 c.leaf-base-leaf.result) in
+    let z = to_z w32 (of_z w32 c.leaf_base-leaf.result) in
     let r : Spot = record { cells = l.cells; index = l.index; spot = l.tip } in
-    let f : Spot = record { cells = c.give-child.new.cells; index = c.give-child.new.index; spot = c.in-Some.t } in
+    let f : Spot = record { cells = c.give_child.new.cells; index = c.give_child.new.index; spot = c.in-Some.t } in
     let base : c.if-i-codes.base ≡ step_base (drop (l.i + 1) codes) z =
     elim c.if-i-codes.branch [
       | then-i-codes w ↦ sym c.if-i-codes.base-is ∙ w.base-is ∙ sym (step_more codes l.i z w.if-i-codes.true)
@@ -92,10 +92,10 @@ returns c =
     let s = c.args.s in
     let codes = c.args.codes.now in
     let n = c.args.number - 1 in
-    let z = to_z w32 (of_z w32 c.leaf-base-leaf.result) in
-    let number : z ≡ negsuc n = to_z-of_z w32 c.leaf-base-leaf.result (search rules) ∙ c.leaf-base-leaf.ensures in
+    let z = to_z w32 (of_z w32 c.leaf_base-leaf.result) in
+    let number : z ≡ negsuc n = to_z-of_z w32 c.leaf_base-leaf.result (search rules) ∙ c.leaf_base-leaf.ensures in
     let r : Spot = record { cells = l.cells; index = l.index; spot = l.tip } in
     let grown : grow_on codes z (record { cells = cs; index = is; spot = s }) ≡ Some r = sym l.invariant.1 ∙ at_drop_all (λ x. grow_on x z r) codes l.i c.loop-i-test.false in
-    let noted : c.note-leaf.new.index ≡ set l.index n l.tip = c.note-leaf.ensures ∙ ap (λ y. reindexed l.index y l.tip) number in
+    let noted : c.note_leaf.new.index ≡ set l.index n l.tip = c.note_leaf.ensures ∙ ap (λ y. reindexed l.index y l.tip) number in
     extended_is codes cs is s n (Some r) c.requires.some (ap (λ y. grow_on codes y (record { cells = cs; index = is; spot = s })) (sym number) ∙ grown)
     ∙ ap (λ x. Some (record { cells = l.cells; index = x })) (sym noted)

@@ -3,14 +3,14 @@ use Rattle.cells.specs.Cells.{base_of, child_codes}
 use Rattle.double_array.proofs.Codes.{codes_within}
 use Rattle.double_array.proofs.entering.undo.Goals as goal
 
-pub move-family-requires : goal.move-family-requires
-move-family-requires c =
-    let fs = c.free-up.new.cells in
+pub move_family-requires : goal.move_family-requires
+move_family-requires c =
+    let fs = c.free_up.new.cells in
     let s = c.args.grown.node in
     let b = c.args.grown.base in
-    let got = c.child-codes-n.ensures.codes in
+    let got = c.child_codes-n.ensures.codes in
     let room : (k : ℕ) → k < length (child_codes fs s) → b + get_or (child_codes fs s) k 0 < length c.args.cells.now =
-    subst (λ xs. (k : ℕ) → k < length (child_codes xs s) → b + get_or (child_codes xs s) k 0 < length c.args.cells.now) (sym c.free-up.ensures) c.requires.to in
+    subst (λ xs. (k : ℕ) → k < length (child_codes xs s) → b + get_or (child_codes xs s) k 0 < length c.args.cells.now) (sym c.free_up.ensures) c.requires.to in
     record {
       room = omega arith;
       within = omega arith;

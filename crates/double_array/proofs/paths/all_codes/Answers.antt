@@ -15,11 +15,11 @@ module _ (path : List ℕ) (i : ℕ) (within : i < length path) (inv : all_codes
   right : true ≡ is_code (get_or path i 0) → all_codes (drop (i + 1) path) ≡ all_codes path
   right e = ap (λ b. b && all_codes (drop (i + 1) path)) e ∙ here
 
-pub returns-then-not-is-code : goal.returns-then-not-is-code
-returns-then-not-is-code c = wrong c.args.path.now c.loop-code.code-index c.loop-code-test.true c.loop-code.invariant c.if-not-is-code.ensures
+pub returns-then-not-is_code : goal.returns-then-not-is_code
+returns-then-not-is_code c = wrong c.args.path.now c.loop-code.code-index c.loop-code-test.true c.loop-code.invariant c.if-not-is_code.ensures
 
 pub loop-code-preserved : goal.loop-code-preserved
-loop-code-preserved c = right c.args.path.now c.loop-code.code-index c.loop-code-test.true c.loop-code.invariant c.if-not-is-code.ensures
+loop-code-preserved c = right c.args.path.now c.loop-code.code-index c.loop-code-test.true c.loop-code.invariant c.if-not-is_code.ensures
 
 pub returns : goal.returns
 returns c = sym (at_drop_all all_codes c.args.path.now c.loop-code.code-index c.loop-code-test.false) ∙ c.loop-code.invariant

@@ -5,17 +5,17 @@ use Rattle.std.proofs.lemmas.List.FromFn.{length-range_with_len}
 use Rattle.cells.specs.Cells.{parent}
 use Rattle.double_array.proofs.Uses.{used_more}
 use Rattle.double_array.proofs.paths.in_use.Goals as goal
-use Rattle.double_array.proofs.paths.in_use.Goals.{then-cell-number-gt0, else-cell-number-gt0}
+use Rattle.double_array.proofs.paths.in_use.Goals.{then-cell_number-gt0, else-cell_number-gt0}
 
 pub loop-t-preserved : goal.loop-t-preserved
 loop-t-preserved c =
     let cs = c.args.cells.now in
     let t = c.loop-t.t in
-    let same : c.cell-number.result ≡ parent cs t = search rules in
+    let same : c.cell_number.result ≡ parent cs t = search rules in
     let more = used_more cs t c.loop-t.auto.t c.loop-t-test.true in
-    elim c.if-cell-number-gt0.branch [
-      | then-cell-number-gt0 w ↦ (omega (arith, w.n-is), w.n-is ∙ ap (λ n. n + 1) c.loop-t.invariant.1 ∙ more.0 (omega (arith, w.if-cell-number-gt0.true)))
-      | else-cell-number-gt0 w ↦ (omega (arith, w.n-is), w.n-is ∙ c.loop-t.invariant.1 ∙ more.1 (omega (arith, w.if-cell-number-gt0.false)))
+    elim c.if-cell_number-gt0.branch [
+      | then-cell_number-gt0 w ↦ (omega (arith, w.n-is), w.n-is ∙ ap (λ n. n + 1) c.loop-t.invariant.1 ∙ more.0 (omega (arith, w.if-cell_number-gt0.true)))
+      | else-cell_number-gt0 w ↦ (omega (arith, w.n-is), w.n-is ∙ c.loop-t.invariant.1 ∙ more.1 (omega (arith, w.if-cell_number-gt0.false)))
     ]
 
 pub returns : goal.returns

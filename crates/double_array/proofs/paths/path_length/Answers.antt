@@ -23,7 +23,7 @@ pub loop-preserved : goal.loop-preserved
 loop-preserved c =
     let cs = c.args.cells.now in
     let l = c.loop in
-    let same : c.cell-number-s.result ≡ parent cs l.s = search rules in
+    let same : c.cell_number-s.result ≡ parent cs l.s = search rules in
     let ne : l.s ≡ 1 → ⊥ = λ e. omega (arith, c.if-s-eq1.false) in
     let fewer : length cs - l.counter - 1 ≡ length cs - (l.counter + 1) = omega arith in
     let step = length_step cs (length cs - l.counter) l.s ne (omega arith) in

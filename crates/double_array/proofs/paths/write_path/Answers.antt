@@ -5,7 +5,7 @@ use Rattle.cells.specs.Walking.{climb}
 use Rattle.cells.proofs.Counts.{within}
 use Rattle.double_array.proofs.Climbs.{write_not_yet, write_more, write_all}
 use Rattle.double_array.proofs.paths.write_path.Goals as goal
-use Rattle.double_array.proofs.paths.write_path.Goals.{After-cell-number-above}
+use Rattle.double_array.proofs.paths.write_path.Goals.{After-cell_number-above}
 
 pub loop-i-init : goal.loop-i-init
 loop-i-init c =
@@ -21,8 +21,8 @@ pub bounds-cells-s : goal.bounds-cells-s
 bounds-cells-s c = within _ _ c.loop-i.invariant.0
 
 -- the cell above the one that was reached
-module _ (c : goal.After-cell-number-above) where
-  above : c.cell-number-above.result ≡ parent c.args.cells.now c.loop-i.s
+module _ (c : goal.After-cell_number-above) where
+  above : c.cell_number-above.result ≡ parent c.args.cells.now c.loop-i.s
   above = search rules
 
   going : (0 < parent c.args.cells.now (parent c.args.cells.now c.loop-i.s))
@@ -38,20 +38,20 @@ bounds-cells-above c = omega (arith, above c, within c.args.cells.now (parent c.
 pub overflow-sub-out : goal.overflow-sub-out
 overflow-sub-out c =
     let cs = c.args.cells.now in
-    let up = above (goal.at.overflow-sub-out c).After-cell-number-above in
-    let low : c.cell-number.result ≡ base_of cs c.cell-number-above.result = search rules in
-    omega (arith, (going (goal.at.overflow-sub-out c).After-cell-number-above).1, ap (base_of cs) up)
+    let up = above (goal.at.overflow-sub-out c).After-cell_number-above in
+    let low : c.cell_number.result ≡ base_of cs c.cell_number-above.result = search rules in
+    omega (arith, (going (goal.at.overflow-sub-out c).After-cell_number-above).1, ap (base_of cs) up)
 
 pub loop-i-preserved : goal.loop-i-preserved
 loop-i-preserved c =
     let cs = c.args.cells.now in
     let l = c.loop-i in
-    let up = above (goal.at.loop-i-preserved c).After-cell-number-above in
-    let low : c.cell-number.result ≡ base_of cs c.cell-number-above.result = search rules in
-    let out : List ℕ = set l.out (l.i - 1) (l.s - c.cell-number.result) in (
-      subst (λ t. 0 < parent cs t) (sym up) (going (goal.at.loop-i-preserved c).After-cell-number-above).0,
+    let up = above (goal.at.loop-i-preserved c).After-cell_number-above in
+    let low : c.cell_number.result ≡ base_of cs c.cell_number-above.result = search rules in
+    let out : List ℕ = set l.out (l.i - 1) (l.s - c.cell_number.result) in (
+      subst (λ t. 0 < parent cs t) (sym up) (going (goal.at.loop-i-preserved c).After-cell_number-above).0,
       ap (λ t. climb (length cs - (length out - (l.i - 1))) cs t (drop (l.i - 1) out)) up
-          ∙ write_more cs c.args.t l.s l.i l.out l.invariant.1 (omega arith) c.loop-i-test.true (omega arith) (l.s - c.cell-number.result) (ap (λ b. l.s - b) (low ∙ ap (base_of cs) up)),
+          ∙ write_more cs c.args.t l.s l.i l.out l.invariant.1 (omega arith) c.loop-i-test.true (omega arith) (l.s - c.cell_number.result) (ap (λ b. l.s - b) (low ∙ ap (base_of cs) up)),
     )
 
 pub returns : goal.returns

@@ -9,22 +9,22 @@ use Rattle.double_array.proofs.Giving.{here_test, full_test, none_test, place_he
 use Rattle.double_array.proofs.placing.give_child.Goals as goal
 use Rattle.double_array.proofs.placing.give_child.Goals.{else_n_gt0_via_then_n_gt0+else_is_free, else-n-gt0-via-else-n-gt0}
 
-pub returns-then-is-free : goal.returns-then-is-free
-returns-then-is-free c =
+pub returns-then-is_free : goal.returns-then-is_free
+returns-then-is_free c =
     let cs = c.args.cells.now in
     let s = c.args.s in
     let a = c.args.code in
-    let low : c.cell-number.result ≡ base_of cs s = search rules in
-    let free : is_free cs (base_of cs s + a) ≡ true = subst (λ b. is_free cs (b + a) ≡ true) low (sym c.if-is-free.ensures) in
-    let out = c.child-codes-n.new.out in
-    let inside_here : c.cell-number.result + a < length cs = ((decides_free cs (c.cell-number.result + a)).0 (sym c.if-is-free.ensures)).0 in
+    let low : c.cell_number.result ≡ base_of cs s = search rules in
+    let free : is_free cs (base_of cs s + a) ≡ true = subst (λ b. is_free cs (b + a) ≡ true) low (sym c.if-is_free.ensures) in
+    let out = c.child_codes-n.new.out in
+    let inside_here : c.cell_number.result + a < length cs = ((decides_free cs (c.cell_number.result + a)).0 (sym c.if-is_free.ensures)).0 in
     record {
       place =
-          place_here cs c.args.index.now s a c.child-codes-n.result out (omega arith) c.child-codes-n.ensures.codes c.args.base
-          (here_test cs c.args.index.now s a c.child-codes-n.result out (omega arith) c.child-codes-n.ensures.codes (base_of cs s + a) c.if-n-gt0.true free)
+          place_here cs c.args.index.now s a c.child_codes-n.result out (omega arith) c.child_codes-n.ensures.codes c.args.base
+          (here_test cs c.args.index.now s a c.child_codes-n.result out (omega arith) c.child_codes-n.ensures.codes (base_of cs s + a) c.if-n-gt0.true free)
           ∙ written cs c.args.index.now s (base_of cs s + a) c.args.base (to_z w32 (of_z w32 c.args.base)) (to_z w32 s) (to_z-of_z w32 c.args.base c.ranges.base) (to_z_pos w32 s (omega arith))
           ∙ ap (λ b. Some (record { cells = set cs (b + a) (record { base = to_z w32 (of_z w32 c.args.base); check = to_z w32 s }); index = c.args.index.now; spot = b + a })) (sym low);
-      within = omega (arith, length-set cs (c.cell-number.result + a) (record { base = to_z w32 (of_z w32 c.args.base); check = to_z w32 s }), inside_here);
+      within = omega (arith, length-set cs (c.cell_number.result + a) (record { base = to_z w32 (of_z w32 c.args.base); check = to_z w32 s }), inside_here);
     }
 
 pub returns-in-err-new : goal.returns-in-err-new
@@ -33,15 +33,15 @@ returns-in-err-new c =
     let is = c.args.index.now in
     let s = c.args.s in
     let a = c.args.code in
-    let n = c.child-codes-n.result in
-    let out = c.child-codes-n.new.out in
+    let n = c.child_codes-n.result in
+    let out = c.child_codes-n.new.out in
     let lt : n < length out = omega arith in
-    let got = c.child-codes-n.ensures.codes in
-    let low : c.cell-number.result ≡ base_of cs s = search rules in
-    let test : (some_code (child_codes cs s) && is_free cs (c.cell-number.result + a)) ≡ false =
+    let got = c.child_codes-n.ensures.codes in
+    let low : c.cell_number.result ≡ base_of cs s = search rules in
+    let test : (some_code (child_codes cs s) && is_free cs (c.cell_number.result + a)) ≡ false =
     elim c.else-n-gt0.branch [
-      | else_n_gt0_via_then_n_gt0+else_is_free w ↦ full_test cs is s a n out lt got (c.cell-number.result + a) (sym w.if-is-free.ensures)
-      | else-n-gt0-via-else-n-gt0 w ↦ none_test cs is s a n out lt got (c.cell-number.result + a) w.if-n-gt0.false
+      | else_n_gt0_via_then_n_gt0+else_is_free w ↦ full_test cs is s a n out lt got (c.cell_number.result + a) (sym w.if-is_free.ensures)
+      | else-n-gt0-via-else-n-gt0 w ↦ none_test cs is s a n out lt got (c.cell_number.result + a) w.if-n-gt0.false
     ] in
     let none = place_far cs is s a n out lt got c.args.base None (subst (λ b. (some_code (child_codes cs s) && is_free cs (b + a)) ≡ false) low test) c.in-err-new.ensures in
     record {
@@ -49,13 +49,13 @@ returns-in-err-new c =
       within = subst (λ o. IfSome o (λ t. t < length cs)) (sym c.from-residual.ensures) tt;
     }
 
-pub move-family-requires : goal.move-family-requires
-move-family-requires c =
+pub move_family-requires : goal.move_family-requires
+move_family-requires c =
     let cs = c.args.cells.now in
-    let n = c.child-codes-n.result in
-    let out = c.child-codes-n.new.out in
+    let n = c.child_codes-n.result in
+    let out = c.child_codes-n.new.out in
     let lt : n < length out = omega arith in
-    let got = c.child-codes-n.ensures.codes in
+    let got = c.child_codes-n.ensures.codes in
     let new = c.in-ok-new.new in
     let e = c.in-ok-new.ensures in
     record {
@@ -69,8 +69,8 @@ move-family-requires c =
 -- the cell that was found for the child
 inside : (c : goal.After-slice-known-2·1) → c.in-ok-new.new + c.args.code < length c.args.cells.now
 inside c =
-    child_within c.args.cells.now c.args.index.now c.args.s c.args.code c.child-codes-n.result c.child-codes-n.new.out (omega arith)
-    c.child-codes-n.ensures.codes c.in-ok-new.new c.in-ok-new.ensures
+    child_within c.args.cells.now c.args.index.now c.args.s c.args.code c.child_codes-n.result c.child_codes-n.new.out (omega arith)
+    c.child_codes-n.ensures.codes c.in-ok-new.new c.in-ok-new.ensures
 
 pub overflow-add-moved : goal.overflow-add-moved
 overflow-add-moved c = let h = inside c in search rules
@@ -87,15 +87,15 @@ returns c =
     let is = c.args.index.now in
     let s = c.args.s in
     let a = c.args.code in
-    let n = c.child-codes-n.result in
-    let out = c.child-codes-n.new.out in
+    let n = c.child_codes-n.result in
+    let out = c.child_codes-n.new.out in
     let lt : n < length out = omega arith in
-    let got = c.child-codes-n.ensures.codes in
-    let low : c.cell-number.result ≡ base_of cs s = search rules in
-    let test : (some_code (child_codes cs s) && is_free cs (c.cell-number.result + a)) ≡ false =
+    let got = c.child_codes-n.ensures.codes in
+    let low : c.cell_number.result ≡ base_of cs s = search rules in
+    let test : (some_code (child_codes cs s) && is_free cs (c.cell_number.result + a)) ≡ false =
     elim c.else-n-gt0.branch [
-      | else_n_gt0_via_then_n_gt0+else_is_free w ↦ full_test cs is s a n out lt got (c.cell-number.result + a) (sym w.if-is-free.ensures)
-      | else-n-gt0-via-else-n-gt0 w ↦ none_test cs is s a n out lt got (c.cell-number.result + a) w.if-n-gt0.false
+      | else_n_gt0_via_then_n_gt0+else_is_free w ↦ full_test cs is s a n out lt got (c.cell_number.result + a) (sym w.if-is_free.ensures)
+      | else-n-gt0-via-else-n-gt0 w ↦ none_test cs is s a n out lt got (c.cell_number.result + a) w.if-n-gt0.false
     ] in
     let b = c.in-ok-new.new in
     let z = c.args.base in
@@ -103,7 +103,7 @@ returns c =
       place =
           place_far cs is s a n out lt got z (Some b) (subst (λ b. (some_code (child_codes cs s) && is_free cs (b + a)) ≡ false) low test) c.in-ok-new.ensures
           ∙ written (relocated cs s (take n (set out n a)) b) (index_relocated cs is s (take n (set out n a)) b) s (b + a) z (to_z w32 (of_z w32 z)) (to_z w32 s) (to_z-of_z w32 z c.ranges.base) (to_z_pos w32 s (omega arith))
-          ∙ ap (λ l. Some (record { cells = set l (b + a) (record { base = to_z w32 (of_z w32 z); check = to_z w32 s }); index = index_relocated cs is s (take n (set out n a)) b; spot = b + a })) (sym c.move-family.ensures.cells)
-          ∙ ap (λ l. Some (record { cells = set c.move-family.new.cells (b + a) (record { base = to_z w32 (of_z w32 z); check = to_z w32 s }); index = l; spot = b + a })) (sym c.move-family.ensures.leaves);
-      within = omega (arith, length-set c.move-family.new.cells (b + a) (record { base = to_z w32 (of_z w32 z); check = to_z w32 s }), inside c);
+          ∙ ap (λ l. Some (record { cells = set l (b + a) (record { base = to_z w32 (of_z w32 z); check = to_z w32 s }); index = index_relocated cs is s (take n (set out n a)) b; spot = b + a })) (sym c.move_family.ensures.cells)
+          ∙ ap (λ l. Some (record { cells = set c.move_family.new.cells (b + a) (record { base = to_z w32 (of_z w32 z); check = to_z w32 s }); index = l; spot = b + a })) (sym c.move_family.ensures.leaves);
+      within = omega (arith, length-set c.move_family.new.cells (b + a) (record { base = to_z w32 (of_z w32 z); check = to_z w32 s }), inside c);
     }

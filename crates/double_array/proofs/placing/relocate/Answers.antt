@@ -10,9 +10,9 @@ loop-code-preserved c =
     let i = l.code-index in
     let codes = c.args.codes.now in
     let w = c.loop-code-test.true in
-    let same = c.move-child.ensures.cells in (
+    let same = c.move_child.ensures.cells in (
       moves_more _ _ codes i w l.cells _ same ∙ l.invariant.0,
-      index_moves_more _ _ codes i w l.cells _ same l.index _ c.move-child.ensures.leaves ∙ l.invariant.1,
+      index_moves_more _ _ codes i w l.cells _ same l.index _ c.move_child.ensures.leaves ∙ l.invariant.1,
     )
 
 pub returns : goal.returns

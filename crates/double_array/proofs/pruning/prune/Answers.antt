@@ -5,19 +5,19 @@ use Rattle.cells.specs.Pruning.{prune}
 use Rattle.double_array.proofs.Frees.{parented_free, prune_stop, prune_on}
 use Rattle.double_array.proofs.pruning.prune.Goals as goal
 
-pub returns-then-has-child : goal.returns-then-has-child
-returns-then-has-child c =
+pub returns-then-has_child : goal.returns-then-has_child
+returns-then-has_child c =
     let l = c.loop in
-    let up : c.cell-number-above.result ≡ parent l.cells l.s = search rules in
-    prune_stop l.cells l.s c.cell-number-above.result up (c.args.n - l.counter) (omega arith) c.if-has-child.ensures ∙ l.invariant.2
+    let up : c.cell_number-above.result ≡ parent l.cells l.s = search rules in
+    prune_stop l.cells l.s c.cell_number-above.result up (c.args.n - l.counter) (omega arith) c.if-has_child.ensures ∙ l.invariant.2
 
 pub loop-preserved : goal.loop-preserved
 loop-preserved c =
     let l = c.loop in
-    let up : c.cell-number-above.result ≡ parent l.cells l.s = search rules in
+    let up : c.cell_number-above.result ≡ parent l.cells l.s = search rules in
     let fewer : c.args.n - (l.counter + 1) ≡ c.args.n - l.counter - 1 = omega arith in (
       omega (arith, l.invariant.1 l.s, length-set l.cells l.s free_cell),
       parented_free l.cells l.s l.invariant.0 l.invariant.1,
-      ap (λ n. prune n (set l.cells l.s free_cell) c.cell-number-above.result) fewer
-          ∙ prune_on l.cells l.s c.cell-number-above.result up (c.args.n - l.counter) (omega arith) c.if-has-child.ensures ∙ l.invariant.2,
+      ap (λ n. prune n (set l.cells l.s free_cell) c.cell_number-above.result) fewer
+          ∙ prune_on l.cells l.s c.cell_number-above.result up (c.args.n - l.counter) (omega arith) c.if-has_child.ensures ∙ l.invariant.2,
     )

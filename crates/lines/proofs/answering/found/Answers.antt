@@ -10,10 +10,10 @@ use Rattle.lines.proofs.answering.found.Goals as goal
 
 pub returns : goal.returns
 returns c =
-    let step = c.perform-growing-reply.ensures.step tt in
-    let same : c.perform-growing-reply.new.records ≡ c.args.records.now = ap (λ (s : Store). s.records) step.1 in
+    let step = c.perform_growing-reply.ensures.step tt in
+    let same : c.perform_growing-reply.new.records ≡ c.args.records.now = ap (λ (s : Store). s.records) step.1 in
     let m = find_of trie_tally_kit c.args.list.now c.args.table.now.links c.args.x.now c.args.y.now c.args.relation in (
-      (c.perform-growing-reply.result, ((_, _, step), c.perform-growing-reply.ensures.law)),
-      c.found-answer.ensures ∙ ap (λ (rs : List Tally). found_text rs c.perform-growing-reply.result) same ∙ ap (found_text c.args.records.now) step.0 ∙ found_said c.args.records.now m,
+      (c.perform_growing-reply.result, ((_, _, step), c.perform_growing-reply.ensures.law)),
+      c.found_answer.ensures ∙ ap (λ (rs : List Tally). found_text rs c.perform_growing-reply.result) same ∙ ap (found_text c.args.records.now) step.0 ∙ found_said c.args.records.now m,
       step.1,
     )

@@ -10,14 +10,14 @@ use Rattle.lines.proofs.answering.listed.Goals as goal
 
 pub returns : goal.returns
 returns c =
-    let step = c.perform-growing-reply.ensures.step tt in
+    let step = c.perform_growing-reply.ensures.step tt in
     let blank : LinkRow = record { relation = 0; y = 0; link = 0 } in
     let rows = replicate 100 blank in
-    let rows' = c.perform-growing-reply.new.out in
-    let same : c.perform-growing-reply.new.records ≡ c.args.records.now = ap (λ (s : Store). s.records) step.3 in (
-      (c.perform-growing-reply.result, ((rows, rows', step), c.perform-growing-reply.ensures.law)),
-      c.listed-answer.ensures
-          ∙ ap (λ (rs : List Tally). listed_text rs rows' c.perform-growing-reply.result) same
+    let rows' = c.perform_growing-reply.new.out in
+    let same : c.perform_growing-reply.new.records ≡ c.args.records.now = ap (λ (s : Store). s.records) step.3 in (
+      (c.perform_growing-reply.result, ((rows, rows', step), c.perform_growing-reply.ensures.law)),
+      c.listed_answer.ensures
+          ∙ ap (λ (rs : List Tally). listed_text rs rows' c.perform_growing-reply.result) same
           ∙ ap (listed_text c.args.records.now rows') step.1
           ∙ listing_said c.args.records.now c.args.x.now (number_in trie_tally_kit c.args.list.now c.args.x.now) (rows_in trie_tally_kit c.args.list.now c.args.table.now.links c.args.x.now c.args.relation) rows rows' step.0 refl step.2,
       step.3,

@@ -7,8 +7,8 @@ use Rattle.listing.proofs.writing.list_all.Goals as goal
 pub loop-before-init : goal.loop-before-init
 loop-before-init c = placed_none c.args.out.now 0 _ _ _ (to_none c.args.table.now c.args.x) refl refl
 
-pub list-relation-next-requires : goal.list-relation-next-requires
-list-relation-next-requires c =
+pub list_relation-next-requires : goal.list_relation-next-requires
+list_relation-next-requires c =
     let l = c.loop-before in
     omega (arith, l.invariant.ends, c.loop-before-test.true, to_few c.args.table.now c.args.x l.before)
 
@@ -17,4 +17,4 @@ loop-before-preserved c =
     let t = c.args.table.now in
     let x = c.args.x in
     let l = c.loop-before in
-    placed_more c.args.out.now 0 (rows_to t x l.before) _ _ l.next _ l.out _ (to_more t x l.before) l.invariant c.list-relation-next.ensures
+    placed_more c.args.out.now 0 (rows_to t x l.before) _ _ l.next _ l.out _ (to_more t x l.before) l.invariant c.list_relation-next.ensures

@@ -10,8 +10,8 @@ use Rattle.listing.proofs.writing.list_block.Goals.{in-Some, in-default}
 pub loop-lower-init : goal.loop-lower-init
 loop-lower-init c = placed_none c.args.out.now c.args.at _ _ _ (from_none c.args.table.now c.args.x c.args.relation (256 * c.args.upper)) refl refl
 
-pub place-row-next-requires : goal.place-row-next-requires
-place-row-next-requires c =
+pub place_row-next-requires : goal.place_row-next-requires
+place_row-next-requires c =
     let l = c.loop-lower in
     omega (arith, l.invariant.ends, c.requires.room, c.loop-lower-test.true, from_few c.args.table.now c.args.x c.args.relation (256 * c.args.upper) l.lower)
 
@@ -24,9 +24,9 @@ loop-lower-preserved c =
     let l = c.loop-lower in
     let y = b + l.lower in
     let one = row (found t (record { x = x; relation = k; y = y })) k y in
-    let m = c.match-number-of in
+    let m = c.match-number_of in
     placed_more c.args.out.now c.args.at (rows_from t x k b l.lower) one _ l.next m.next l.out m.out (from_more t x k b l.lower) l.invariant
     (elim m.branch [
-      | in-Some w ↦ placed_as l.out l.next _ one _ _ _ _ (sym (ap (λ o. row o k y) w.in-Some.ensures.number)) w.next-is w.out-is w.place-row-next.ensures
+      | in-Some w ↦ placed_as l.out l.next _ one _ _ _ _ (sym (ap (λ o. row o k y) w.in-Some.ensures.number)) w.next-is w.out-is w.place_row-next.ensures
       | in-default w ↦ placed_none l.out l.next one _ _ (sym (ap (λ o. row o k y) w.in-default.ensures.number)) w.next-is w.out-is
     ])

@@ -14,8 +14,8 @@ returns-then-not-leads c =
 pub loop-upper-init : goal.loop-upper-init
 loop-upper-init c = placed_none c.args.out.now c.args.at _ _ _ (below_none c.args.table.now c.args.x c.args.relation) refl refl
 
-pub list-block-next-requires : goal.list-block-next-requires
-list-block-next-requires c =
+pub list_block-next-requires : goal.list_block-next-requires
+list_block-next-requires c =
     let l = c.loop-upper in
     record {
       byte = omega (arith, c.loop-upper-test.true);
@@ -33,6 +33,6 @@ loop-upper-preserved c =
     let block = rows_from t x k (256 * l.upper) 256 in
     placed_more c.args.out.now c.args.at before block _ l.next m.next l.out m.out (below_next t x k l.upper) l.invariant
     (elim m.branch [
-      | then-leads w ↦ placed_as l.out l.next block block _ _ _ _ refl w.next-is w.out-is w.list-block-next.ensures
+      | then-leads w ↦ placed_as l.out l.next block block _ _ _ _ refl w.next-is w.out-is w.list_block-next.ensures
       | else-leads w ↦ placed_none l.out l.next block _ _ (block_absent t x k l.upper w.if-leads.ensures) w.next-is w.out-is
     ])

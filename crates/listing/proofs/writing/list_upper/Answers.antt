@@ -10,8 +10,8 @@ returns-then-leads c =
     let rows = rows_from c.args.table.now c.args.x c.args.relation (256 * c.args.upper) 256 in
     let few : length rows ≤ 256 = from_few c.args.table.now c.args.x c.args.relation (256 * c.args.upper) 256 in
     record {
-      output = placed_filled rows c.args.out.now _ _ (omega arith) c.list-block.ensures;
-      few = omega (arith, c.list-block.ensures.ends);
+      output = placed_filled rows c.args.out.now _ _ (omega arith) c.list_block.ensures;
+      few = omega (arith, c.list_block.ensures.ends);
     }
 
 pub returns-else-leads : goal.returns-else-leads

@@ -12,8 +12,8 @@ loop-row-preserved c =
     let l = c.loop-row in
     let rs = c.args.records.now in
     let rows = c.args.rows.now in (
-      ap (λ (n : ℕ). n + c.count-at.result) l.invariant.0
-          ∙ ap (λ (n : ℕ). sum_at rs (take l.row-index rows) + n) c.count-at.ensures
+      ap (λ (n : ℕ). n + c.count_at.result) l.invariant.0
+          ∙ ap (λ (n : ℕ). sum_at rs (take l.row-index rows) + n) c.count_at.ensures
           ∙ sym (sum_by_more (λ r. count_at rs r.link) rows l.row-index (record { relation = 0; y = 0; link = 0 }) c.loop-row-test.true),
       omega arith,
     )

@@ -8,28 +8,28 @@ pub loop-upper-init : goal.loop-upper-init
 loop-upper-init c = (total_none c.args.table.now c.args.records.now c.args.x c.args.relation, omega arith)
 
 pub slice-bounds-rows-end : goal.slice-bounds-rows-end
-slice-bounds-rows-end c = omega (arith, c.list-upper-count.ensures.few, c.list-upper-count.array_long)
+slice-bounds-rows-end c = omega (arith, c.list_upper-count.ensures.few, c.list_upper-count.array_long)
 
-pub slice-bounds-sum-at-end : goal.slice-bounds-sum-at-end
-slice-bounds-sum-at-end c =
-    let rows = front _ _ _ _ c.list-upper-count.ensures.output in
-    c.list-upper-count.ensures.output.1 ∙ sym (ap length rows)
+pub slice-bounds-sum_at-end : goal.slice-bounds-sum_at-end
+slice-bounds-sum_at-end c =
+    let rows = front _ _ _ _ c.list_upper-count.ensures.output in
+    c.list_upper-count.ensures.output.1 ∙ sym (ap length rows)
 
-pub sum-at-sum-requires : goal.sum-at-sum-requires
-sum-at-sum-requires c =
-    let rows = front _ _ _ _ c.list-upper-count.ensures.output in
-    omega (arith, ap length rows, c.list-upper-count.ensures.output.1, c.list-upper-count.ensures.few)
+pub sum_at-sum-requires : goal.sum_at-sum-requires
+sum_at-sum-requires c =
+    let rows = front _ _ _ _ c.list_upper-count.ensures.output in
+    omega (arith, ap length rows, c.list_upper-count.ensures.output.1, c.list_upper-count.ensures.few)
 
 pub overflow-add-sum : goal.overflow-add-sum
-overflow-add-sum c = omega (arith, c.loop-upper.invariant, c.sum-at-sum.ensures.most)
+overflow-add-sum c = omega (arith, c.loop-upper.invariant, c.sum_at-sum.ensures.most)
 
 pub loop-upper-preserved : goal.loop-upper-preserved
 loop-upper-preserved c =
     let l = c.loop-upper in
     let rs = c.args.records.now in
-    let rows = front _ _ _ _ c.list-upper-count.ensures.output in (
-      total_more c.args.table.now rs c.args.x c.args.relation l.upper l.sum c.sum-at-sum.result l.invariant.0 (c.sum-at-sum.ensures.sum ∙ ap (sum_at rs) rows),
-      omega (arith, l.invariant, c.sum-at-sum.ensures.most),
+    let rows = front _ _ _ _ c.list_upper-count.ensures.output in (
+      total_more c.args.table.now rs c.args.x c.args.relation l.upper l.sum c.sum_at-sum.result l.invariant.0 (c.sum_at-sum.ensures.sum ∙ ap (sum_at rs) rows),
+      omega (arith, l.invariant, c.sum_at-sum.ensures.most),
     )
 
 pub returns : goal.returns

@@ -7,4 +7,4 @@ returns-in-Ok g c =
     let m = c.in-Ok.ensures in
     let fit = spelled_slice g.S.Script.spelling c.args.word.now _ _ c.in-Ok.count m.answer m.output m.sized in
     let whole : c.in-Ok.count ≡ c.in-Ok.count - 0 = omega arith in
-    (fit.sized, ap (λ (n : ℕ). take n c.spell-word.new.out) whole ∙ fit.same)
+    (fit.sized, ap (λ (n : ℕ). take n c.spell_word.new.out) whole ∙ fit.same)

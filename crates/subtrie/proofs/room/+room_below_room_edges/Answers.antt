@@ -3,51 +3,51 @@ use Rattle.subtrie.specs.Below.{numbers_below, room_after}
 use Rattle.subtrie.proofs.Steps.{below_leaf, below_none, below_edges, edges_end}
 use Rattle.subtrie.proofs.Rooms.{leaves, too_many, room_some, room_none, room_refused}
 use Rattle.subtrie.proofs.room.+room_below_room_edges.Goals as goal
-use Rattle.subtrie.proofs.room.+room_below_room_edges.Goals.{room_edges_in_Some+in_ok_rest, room-edges-in-default}
+use Rattle.subtrie.proofs.room.+room_below_room_edges.Goals.{room_edges_in_Some+in_ok_rest, room_edges-in-default}
 
-pub room-below-returns-in-Some : goal.room-below-returns-in-Some
-room-below-returns-in-Some t c =
+pub room_below-returns-in-Some : goal.room_below-returns-in-Some
+room_below-returns-in-Some t c =
     let e = ap length (below_leaf c.args.cells.now c.args.s c.args.left _ c.in-Some.ensures) in
     too_many c.args.room _ (omega (arith, e, c.if-room-eq0.true))
 
-pub room-below-returns-in-Some-2 : goal.room-below-returns-in-Some-2
-room-below-returns-in-Some-2 t c =
+pub room_below-returns-in-Some-2 : goal.room_below-returns-in-Some-2
+room_below-returns-in-Some-2 t c =
     let e = ap length (below_leaf c.args.cells.now c.args.s c.args.left _ c.in-Some-2.ensures) in
     leaves c.args.room _ _ (omega (arith, e, c.if-room-eq0.false))
 
-pub room-below-returns-in-None : goal.room-below-returns-in-None
-room-below-returns-in-None t c =
+pub room_below-returns-in-None : goal.room_below-returns-in-None
+room_below-returns-in-None t c =
     let e = ap length (below_none c.args.cells.now c.args.s c.args.left c.if-left-eq0.true c.in-None.ensures) in
     leaves c.args.room _ _ (omega (arith, e))
 
-pub room-below-returns-in-None-2 : goal.room-below-returns-in-None-2
-room-below-returns-in-None-2 t c =
+pub room_below-returns-in-None-2 : goal.room_below-returns-in-None-2
+room_below-returns-in-None-2 t c =
     let e = below_edges c.args.cells.now c.args.s c.args.left c.if-left-eq0.false c.in-None-2.ensures in
-    c.room-edges.ensures ∙ sym (ap (room_after c.args.room) e)
+    c.room_edges.ensures ∙ sym (ap (room_after c.args.room) e)
 
-pub room-edges-returns-in-err-rest : goal.room-edges-returns-in-err-rest
-room-edges-returns-in-err-rest t c =
+pub room_edges-returns-in-err-rest : goal.room_edges-returns-in-err-rest
+room_edges-returns-in-err-rest t c =
     let cs = c.args.cells.now in
     let l = c.loop-code in
     c.from-residual.ensures
     ∙ room_refused (numbers_below c.args.left cs) cs c.args.s l.code c.loop-code-test.true l.rest c.in-Some.t c.in-Some.ensures c.in-err-rest.ensures
     ∙ l.invariant
 
-pub room-edges-returns : goal.room-edges-returns
-room-edges-returns t c =
+pub room_edges-returns : goal.room_edges-returns
+room_edges-returns t c =
     let cs = c.args.cells.now in
     let l = c.loop-code in
     let e = edges_end (numbers_below c.args.left cs) cs c.args.s l.code c.loop-code-test.false in
     leaves l.rest l.rest _ (omega (arith, ap length e)) ∙ l.invariant
 
-pub room-edges-loop-code-preserved : goal.room-edges-loop-code-preserved
-room-edges-loop-code-preserved t c =
+pub room_edges-loop-code-preserved : goal.room_edges-loop-code-preserved
+room_edges-loop-code-preserved t c =
     let cs = c.args.cells.now in
     let f = numbers_below c.args.left cs in
     let l = c.loop-code in
     elim c.match-child.branch [
       | room_edges_in_Some+in_ok_rest w ↦
           room_some f cs c.args.s l.code c.loop-code-test.true l.rest w.in-Some.t c.match-child.rest w.in-Some.ensures (ap Some w.rest-is ∙ w.in-ok-rest.ensures) ∙ l.invariant
-      | room-edges-in-default w ↦
+      | room_edges-in-default w ↦
           room_none f cs c.args.s l.code c.loop-code-test.true l.rest c.match-child.rest w.in-default.ensures w.rest-is ∙ l.invariant
     ]

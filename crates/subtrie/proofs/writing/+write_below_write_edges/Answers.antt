@@ -4,59 +4,59 @@ use Rattle.subtrie.specs.Below.{numbers_below}
 use Rattle.subtrie.proofs.Steps.{below_leaf, below_none, below_edges, edges_end}
 use Rattle.subtrie.proofs.Writes.{wrote_none, wrote_one, wrote_as, wrote_all, wrote_some, wrote_past, edge_room}
 use Rattle.subtrie.proofs.writing.+write_below_write_edges.Goals as goal
-use Rattle.subtrie.proofs.writing.+write_below_write_edges.Goals.{write-edges-in-Some, write-edges-in-default}
+use Rattle.subtrie.proofs.writing.+write_below_write_edges.Goals.{write_edges-in-Some, write_edges-in-default}
 
-pub write-below-bounds-out-at : goal.write-below-bounds-out-at
-write-below-bounds-out-at t c =
+pub write_below-bounds-out-at : goal.write_below-bounds-out-at
+write_below-bounds-out-at t c =
     let e = ap length (below_leaf c.args.cells.now c.args.s c.args.left c.in-Some.n c.in-Some.ensures) in
     omega (arith, e, c.requires.room)
 
-pub write-below-returns-in-Some : goal.write-below-returns-in-Some
-write-below-returns-in-Some t c =
+pub write_below-returns-in-Some : goal.write_below-returns-in-Some
+write_below-returns-in-Some t c =
     let e = below_leaf c.args.cells.now c.args.s c.args.left c.in-Some.n c.in-Some.ensures in
     let w = wrote_one c.args.out.now c.args.at _ c.in-Some.n e (omega (arith, ap length e, c.requires.room)) in
     record { end = w.ends; after = w.holds }
 
-pub write-below-returns-in-None : goal.write-below-returns-in-None
-write-below-returns-in-None t c =
+pub write_below-returns-in-None : goal.write_below-returns-in-None
+write_below-returns-in-None t c =
     let e = below_none c.args.cells.now c.args.s c.args.left c.if-left-eq0.true c.in-None.ensures in
     let w = wrote_none c.args.out.now c.args.at _ e in
     record { end = w.ends; after = w.holds }
 
-pub write-below-returns-in-None-2 : goal.write-below-returns-in-None-2
-write-below-returns-in-None-2 t c =
+pub write_below-returns-in-None-2 : goal.write_below-returns-in-None-2
+write_below-returns-in-None-2 t c =
     let e = below_edges c.args.cells.now c.args.s c.args.left c.if-left-eq0.false c.in-None-2.ensures in
-    let w = wrote_as c.args.out.now c.args.at _ _ _ _ e (record { ends = c.write-edges.ensures.end; holds = c.write-edges.ensures.after }) in
+    let w = wrote_as c.args.out.now c.args.at _ _ _ _ e (record { ends = c.write_edges.ensures.end; holds = c.write_edges.ensures.after }) in
     record { end = w.ends; after = w.holds }
 
-pub write-below-write-edges-requires : goal.write-below-write-edges-requires
-write-below-write-edges-requires t c =
+pub write_below_write_edges-requires : goal.write_below_write_edges-requires
+write_below_write_edges-requires t c =
     let e = ap length (below_edges c.args.cells.now c.args.s c.args.left c.if-left-eq0.false c.in-None-2.ensures) in
     (search rules, (search rules, (search rules, omega (arith, e, c.requires.room))))
 
-pub write-edges-returns : goal.write-edges-returns
-write-edges-returns t c =
+pub write_edges-returns : goal.write_edges-returns
+write_edges-returns t c =
     let cs = c.args.cells.now in
     let w = wrote_all c.loop-code.out c.loop-code.next _ _ _ (edges_end (numbers_below c.args.left cs) cs c.args.s c.loop-code.code c.loop-code-test.false) c.loop-code.invariant in
     record { end = w.0; after = w.1 }
 
-pub write-edges-loop-code-preserved : goal.write-edges-loop-code-preserved
-write-edges-loop-code-preserved t c =
+pub write_edges-loop-code-preserved : goal.write_edges-loop-code-preserved
+write_edges-loop-code-preserved t c =
     let cs = c.args.cells.now in
     let f = numbers_below c.args.left cs in
     let l = c.loop-code in
     elim c.match-child.branch [
-      | write-edges-in-Some w ↦
+      | write_edges-in-Some w ↦
           wrote_some f cs c.args.s l.code c.loop-code-test.true l.out l.next _ _ w.in-Some.t c.match-child.next c.match-child.out w.in-Some.ensures
           (omega (arith, l.auto.out, c.requires.room))
-          (record { ends = w.next-is ∙ w.write-below-next.ensures.end; holds = w.out-is ∙ w.write-below-next.ensures.after })
+          (record { ends = w.next-is ∙ w.write_below-next.ensures.end; holds = w.out-is ∙ w.write_below-next.ensures.after })
           l.invariant
-      | write-edges-in-default w ↦
+      | write_edges-in-default w ↦
           wrote_past f cs c.args.s l.code c.loop-code-test.true l.out l.next _ _ c.match-child.next c.match-child.out w.in-default.ensures w.next-is w.out-is l.invariant
     ]
 
-pub write-edges-write-below-next-requires : goal.write-edges-write-below-next-requires
-write-edges-write-below-next-requires t c =
+pub write_edges-write_below-next-requires : goal.write_edges-write_below-next-requires
+write_edges-write_below-next-requires t c =
     let cs = c.args.cells.now in
     let l = c.loop-code in
     let room = edge_room (numbers_below c.args.left cs) cs c.args.s l.code c.loop-code-test.true l.out l.next _ _ c.in-Some.t c.in-Some.ensures (omega (arith, l.auto.out, c.requires.room)) l.invariant in

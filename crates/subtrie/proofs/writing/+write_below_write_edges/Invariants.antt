@@ -4,15 +4,15 @@ use Rattle.subtrie.specs.Below.{edge_numbers, numbers_below}
 use Rattle.subtrie.proofs.Writes.{Wrote}
 use Rattle.subtrie.proofs.writing.+write_below_write_edges.Given as goal
 
-abbrev pub decreases-write-below : goal.decreases-write-below
-decreases-write-below l = 2 * l.left
+abbrev pub decreases-write_below : goal.decreases-write_below
+decreases-write_below l = 2 * l.left
 
-abbrev pub decreases-write-edges : goal.decreases-write-edges
-decreases-write-edges l = 2 * l.left + 1
+abbrev pub decreases-write_edges : goal.decreases-write_edges
+decreases-write_edges l = 2 * l.left + 1
 
 -- what is left to write ends and leaves the output as all of it does
-abbrev pub invariant-write-edges-loop-code : goal.invariant-write-edges-loop-code
-invariant-write-edges-loop-code l =
+abbrev pub invariant-write_edges-loop-code : goal.invariant-write_edges-loop-code
+invariant-write_edges-loop-code l =
     Wrote l.out l.next (edge_numbers (numbers_below l.left l.cells) l.cells l.s (258 - l.code))
     (l.at + length (edge_numbers (numbers_below l.left l.cells) l.cells l.s 257))
     (written l.initial.out l.at (edge_numbers (numbers_below l.left l.cells) l.cells l.s 257))

@@ -13,7 +13,7 @@ invariant-of-self c =
     let xs = c.enter.new.cells in
     let js = c.enter.new.index in
     let done : Entry (cells_of d) (index_of d) c.args.path.now c.args.number c.enter.result xs js =
-    subst₂ (λ cs is. Entry cs is c.args.path.now c.args.number c.enter.result xs js) c.as-mut-slice.ensures.value c.as-mut-slice-2.ensures.value c.enter.ensures in
+    subst₂ (λ cs is. Entry cs is c.args.path.now c.args.number c.enter.result xs js) c.as_mut_slice.ensures.value c.as_mut_slice-2.ensures.value c.enter.ensures in
     fields xs _ js _ (with_items_is d.cells xs (omega arith)) (with_items_is d.index js (omega arith)) (omega arith)
     (entry_sound (cells_of d) (index_of d) c.args.path.now c.args.number xs js (sound_from d) c.enter.result done)
 
@@ -25,11 +25,11 @@ returns c =
     let p = c.args.path.now in
     let u = c.args.number in
     let done : Entry (cells_of d) (index_of d) p u c.enter.result xs js =
-    subst₂ (λ cs is. Entry cs is p u c.enter.result xs js) c.as-mut-slice.ensures.value c.as-mut-slice-2.ensures.value c.enter.ensures in
+    subst₂ (λ cs is. Entry cs is p u c.enter.result xs js) c.as_mut_slice.ensures.value c.as_mut_slice-2.ensures.value c.enter.ensures in
     let e = with_items_is d.cells xs (omega arith) in
     let f = with_items_is d.index js (omega arith) in
-    let long : length xs ≡ length (cells_of d) = omega (arith, ap length c.as-mut-slice.ensures.value) in
-    let wide : length js ≡ length (index_of d) = omega (arith, ap length c.as-mut-slice-2.ensures.value) in
+    let long : length xs ≡ length (cells_of d) = omega (arith, ap length c.as_mut_slice.ensures.value) in
+    let wide : length js ≡ length (index_of d) = omega (arith, ap length c.as_mut_slice-2.ensures.value) in
     record {
       cells = subst₂ (Entry (cells_of d) (index_of d) p u c.enter.result) (sym e) (sym f) done;
       sizes = (ap length e ∙ long, ap length f ∙ wide);

@@ -8,5 +8,5 @@ use Rattle.double_array.proofs.array.DoubleArray.in_use.Goals as goal
 pub returns : goal.returns
 returns c =
     let d = c.args.self.now in
-    let count = c.in-use.ensures ∙ ap in_use c.as-slice.ensures.value in
+    let count = c.in_use.ensures ∙ ap in_use c.as_slice.ensures.value in
     record { cells = count; paths = λ ks two holds. count ∙ counting (cells_of d) (index_of d) ks two (sound_from d) holds }

@@ -8,6 +8,6 @@ pub returns : goal.returns
 returns c =
     let d = c.args.self.now in
     record {
-      number = c.number-at.ensures ∙ ap (λ cs. number_at cs c.args.path.now) c.as-slice.ensures.value;
+      number = c.number_at.ensures ∙ ap (λ cs. number_at cs c.args.path.now) c.as_slice.ensures.value;
       paths = walks (cells_of d) c.args.path.now;
     }

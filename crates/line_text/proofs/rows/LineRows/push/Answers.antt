@@ -4,8 +4,8 @@ use Rattle.std.proofs.lemmas.Bool.{lt-ltb, le-ltb, cond-true, cond-false}
 use Rattle.line_text.specs.Texts.{rows_in}
 use Rattle.line_text.proofs.rows.LineRows.push.Goals as goal
 
-pub returns-then-self-ge-ROW-PLACES : goal.returns-then-self-ge-ROW-PLACES
-returns-then-self-ge-ROW-PLACES c =
+pub returns-then-self-ge-ROW_PLACES : goal.returns-then-self-ge-ROW_PLACES
+returns-then-self-ge-ROW_PLACES c =
     let s = c.args.self.now in
     let long : length (rows_in s) ≡ s.count = length-take-le s.count s.rows (omega (arith, s.few, s.places)) in
     let full : ltb (length (rows_in s)) 100 ≡ false = le-ltb (length (rows_in s)) 100 (omega arith) in

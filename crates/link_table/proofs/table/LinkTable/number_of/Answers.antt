@@ -8,6 +8,6 @@ pub returns : goal.returns
 returns c =
     let s = c.args.self.now in
     record {
-      number = c.number-at.ensures.number ∙ ap (number_at (cells_of s.array)) c.write-code.ensures.path;
+      number = c.number_at.ensures.number ∙ ap (number_at (cells_of s.array)) c.write_code.ensures.path;
       laws = lawful s;
     }

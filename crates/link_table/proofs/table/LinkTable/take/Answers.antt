@@ -11,7 +11,7 @@ overflow-sub-self c =
     let s = c.args.self.now in
     let d = c.remove.new.self in
     let m = c.in-Some.ensures in
-    let e = c.write-code-path.ensures.path in
+    let e = c.write_code-path.ensures.path in
     let did = subst (λ (p : List ℕ). Taken (cells_of s.array) (index_of s.array) p (Some c.in-Some.number) (cells_of d) (index_of d)) e m.cells in
     let removed = subst (λ (p : List ℕ). Removed (cells_of s.array) p (cells_of d)) e m.paths in
     omega (arith, s.counted, take_held s c.args.triple c.in-Some.number did.0 d m.sizes.1 removed)
@@ -21,7 +21,7 @@ invariant-of-self-in-Some c =
     let s = c.args.self.now in
     let d = c.remove.new.self in
     let m = c.in-Some.ensures in
-    let e = c.write-code-path.ensures.path in
+    let e = c.write_code-path.ensures.path in
     let did = subst (λ (p : List ℕ). Taken (cells_of s.array) (index_of s.array) p (Some c.in-Some.number) (cells_of d) (index_of d)) e m.cells in
     let removed = subst (λ (p : List ℕ). Removed (cells_of s.array) p (cells_of d)) e m.paths in
     take_fields s c.args.triple c.in-Some.number did.0 d m.sizes.1 removed
@@ -30,14 +30,14 @@ pub returns-in-None : goal.returns-in-None
 returns-in-None c =
     let s = c.args.self.now in
     let m = c.in-None.ensures in
-    (ap (number_at (cells_of s.array)) (sym c.write-code-path.ensures.path) ∙ m.cells.0, refl, same_table _ s m.same refl refl)
+    (ap (number_at (cells_of s.array)) (sym c.write_code-path.ensures.path) ∙ m.cells.0, refl, same_table _ s m.same refl refl)
 
 pub returns-in-Some : goal.returns-in-Some
 returns-in-Some c =
     let s = c.args.self.now in
     let d = c.remove.new.self in
     let m = c.in-Some.ensures in
-    let e = c.write-code-path.ensures.path in
+    let e = c.write_code-path.ensures.path in
     let did = subst (λ (p : List ℕ). Taken (cells_of s.array) (index_of s.array) p (Some c.in-Some.number) (cells_of d) (index_of d)) e m.cells in
     let removed = subst (λ (p : List ℕ). Removed (cells_of s.array) p (cells_of d)) e m.paths in
     take_done s c.args.triple c.in-Some.number did.0 _ m.sizes.1 removed did.1

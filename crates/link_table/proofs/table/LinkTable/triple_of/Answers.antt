@@ -8,13 +8,13 @@ use Rattle.link_table.specs.declared.triple.Triple.{Triple}
 use Rattle.link_table.proofs.Tables.{lawful, path_known, path_five, path_codes, path_written, unknown_at}
 use Rattle.link_table.proofs.table.LinkTable.triple_of.Goals as goal
 
-pub read-code-requires : goal.read-code-requires
-read-code-requires c =
+pub read_code-requires : goal.read_code-requires
+read_code-requires c =
     let s = c.args.self.now in
     let u = c.args.number in
     let m = c.in-Ok.ensures.path in
     let known = path_known s u 5 m.0 in
-    let same = path_written s u known c.in-Ok.field-0 _ c.path-of.new.out refl m.1 m.2 in
+    let same = path_written s u known c.in-Ok.field-0 _ c.path_of.new.out refl m.1 m.2 in
     record { five = ap is_triple_path same ∙ path_five s u known; codes = ap all_codes same ∙ path_codes s u known }
 
 pub returns-in-Ok : goal.returns-in-Ok
@@ -23,9 +23,9 @@ returns-in-Ok c =
     let u = c.args.number in
     let m = c.in-Ok.ensures.path in
     let known = path_known s u 5 m.0 in
-    let same = path_written s u known c.in-Ok.field-0 _ c.path-of.new.out refl m.1 m.2 in
+    let same = path_written s u known c.in-Ok.field-0 _ c.path_of.new.out refl m.1 m.2 in
     record {
-      triple = ap (λ (t : Triple). Some t) (c.read-code.ensures ∙ ap triple_of same)
+      triple = ap (λ (t : Triple). Some t) (c.read_code.ensures ∙ ap triple_of same)
           ∙ sym (cond-true (is_known (index_of s.array) u) (Some (triple_of (path_of (cells_of s.array) (index_of s.array) u))) None known);
       laws = lawful s;
     }

@@ -9,9 +9,9 @@ pub returns : goal.returns
 returns c =
     let s = c.args.self.now in
     let w = c.args.word.now in
-    let sized : label_sized w ≡ true = sym c.if-not-has-label-size.ensures in
+    let sized : label_sized w ≡ true = sym c.if-not-has_label_size.ensures in
     let absent : number_of (roll_of s) w ≡ None = sym c.in-default.ensures in
-    let free : room_of s w ≡ true = sym c.if-not-has-room.ensures in
+    let free : room_of s w ≡ true = sym c.if-not-has_room.ensures in
     let count : c.append.new.self.count ≡ length (roll_of s) + 1 = omega (arith, c.append.ensures.arrays.count_after, length_roll s) in
     record {
       answer = λ _. ap (λ n. Ok n) count ∙ sym (new_answer (roll_of s) (room_of s w) w sized absent free);

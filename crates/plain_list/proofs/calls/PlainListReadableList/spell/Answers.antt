@@ -6,19 +6,19 @@ use Rattle.plain_list.specs.Plain.{roll_of}
 use Rattle.plain_list.specs.Lists.{length_roll}
 use Rattle.plain_list.proofs.calls.PlainListReadableList.spell.Goals as goal
 
-pub word-at-word-requires : goal.word-at-word-requires
-word-at-word-requires c =
-    let bounds = numbered_bounds (roll_of c.args.self.now) c.args.number (sym c.if-not-is-numbered.ensures) in
+pub word_at-word-requires : goal.word_at-word-requires
+word_at-word-requires c =
+    let bounds = numbered_bounds (roll_of c.args.self.now) c.args.number (sym c.if-not-is_numbered.ensures) in
     omega (arith, bounds.0, bounds.1, length_roll c.args.self.now)
 
 pub returns : goal.returns
 returns c =
     let s = c.args.self.now in
     let out = c.args.out.now in
-    let some : numbered (roll_of s) c.args.number ≡ true = sym c.if-not-is-numbered.ensures in
-    let word = c.word-at-word.result.now in
+    let some : numbered (roll_of s) c.args.number ≡ true = sym c.if-not-is_numbered.ensures in
+    let word = c.word_at-word.result.now in
     record {
-      answer = λ _. put_answer (roll_of s) c.args.number out word some c.word-at-word.ensures c.put.result c.ok-or.result c.put.ensures.end c.ok-or.ensures.value;
-      output = λ _. put_output (roll_of s) c.args.number out word some c.word-at-word.ensures c.put.new.out c.put.ensures.after;
-      within = put_within out word c.put.result c.ok-or.result c.put.ensures.end c.ok-or.ensures.value;
+      answer = λ _. put_answer (roll_of s) c.args.number out word some c.word_at-word.ensures c.put.result c.ok_or.result c.put.ensures.end c.ok_or.ensures.value;
+      output = λ _. put_output (roll_of s) c.args.number out word some c.word_at-word.ensures c.put.new.out c.put.ensures.after;
+      within = put_within out word c.put.result c.ok_or.result c.put.ensures.end c.ok_or.ensures.value;
     }

@@ -11,8 +11,8 @@ invariant-of-self c =
     let s = c.args.self.now in
     let w = c.args.word.now in
     let new : New s w = new_facts s w c.requires in
-    let long : length c.put.new.out ≡ s.bytes.len = omega (arith, c.put.auto.out, c.as-mut-slice.ensures.len) in
-    let bytes = more_bytes s w new c.put.new.out c.as-mut-slice.result.now long c.as-mut-slice.ensures.value c.put.ensures.after in
+    let long : length c.put.new.out ≡ s.bytes.len = omega (arith, c.put.auto.out, c.as_mut_slice.ensures.len) in
+    let bytes = more_bytes s w new c.put.new.out c.as_mut_slice.result.now long c.as_mut_slice.ensures.value c.put.ensures.after in
     let roll = ap (cut (take (s.count + 1) (set (vec_items s.lengths) s.count (length w)))) bytes ∙ more_roll s w new in
     let lawful = lawful_push (roll_of s) w (roll_lawful s) (omega (arith, new.few, length_roll s)) new.sized new.absent in (
       omega (arith, new.place),
@@ -39,8 +39,8 @@ returns c =
     let s = c.args.self.now in
     let w = c.args.word.now in
     let new : New s w = new_facts s w c.requires in
-    let long : length c.put.new.out ≡ s.bytes.len = omega (arith, c.put.auto.out, c.as-mut-slice.ensures.len) in
-    let bytes = more_bytes s w new c.put.new.out c.as-mut-slice.result.now long c.as-mut-slice.ensures.value c.put.ensures.after in
+    let long : length c.put.new.out ≡ s.bytes.len = omega (arith, c.put.auto.out, c.as_mut_slice.ensures.len) in
+    let bytes = more_bytes s w new c.put.new.out c.as_mut_slice.result.now long c.as_mut_slice.ensures.value c.put.ensures.after in
     record {
       arrays = record { bytes_after = bytes; lengths_after = refl; count_after = refl; used_after = refl };
       roll = ap (cut (take (s.count + 1) (set (vec_items s.lengths) s.count (length w)))) bytes ∙ more_roll s w new;

@@ -16,6 +16,6 @@ returns-in-err-number g c =
 pub returns : goal.returns
 returns g c =
     let m = c.in-ok-number.ensures in
-    subst (λ (o : Option Refusal). JoinsAt o c.args.self.now.links c.args.records.now c.args.triple c.args.record (Ok (record { x = c.args.triple.x; y = c.args.triple.y; number = c.in-ok-number.number })) c.put.new.self c.write-record.new.records)
+    subst (λ (o : Option Refusal). JoinsAt o c.args.self.now.links c.args.records.now c.args.triple c.args.record (Ok (record { x = c.args.triple.x; y = c.args.triple.y; number = c.in-ok-number.number })) c.put.new.self c.write_record.new.records)
     (sym (joins_refusal c.args.self.now.links c.args.triple None m.0))
-    (c.in-ok-number.number, refl, m.1, c.write-record.ensures)
+    (c.in-ok-number.number, refl, m.1, c.write_record.ensures)

@@ -15,7 +15,7 @@ returns-in-err-enter c =
     let w = c.args.word.now in
     let m = c.in-err-enter.ensures in
     let e = c.in-err-enter.field-0.0 in
-    let slice = written_slice c.write-path-size.result c.write-path-size.new.path w c.write-path-size.ensures.path in
+    let slice = written_slice c.write_path-size.result c.write_path-size.new.path w c.write_path-size.ensures.path in
     let long = ap length c.index.ensures in
     let left : s.count < min (length (index_of s.array)) 65535 = omega (arith, c.min.ensures, long, c.if-self-min.false) in
     let said = refused_place s w c.requires.sized c.requires.absent (λ k. omega (arith, c.type-inv.word k)) left e
@@ -29,7 +29,7 @@ invariant-of-self-2 c =
     let w = c.args.word.now in
     let d = c.enter.new.self in
     let xs : Arrays = record { cells = cells_of d; index = index_of d } in
-    let slice = written_slice c.write-path-size.result c.write-path-size.new.path w c.write-path-size.ensures.path in
+    let slice = written_slice c.write_path-size.result c.write_path-size.new.path w c.write_path-size.ensures.path in
     let long = ap length c.index.ensures in
     let left : s.count < min (length (index_of s.array)) 65535 = omega (arith, c.min.ensures, long, c.if-self-min.false) in
     let did = entered_as s w c.requires.sized c.requires.absent (λ k. omega (arith, c.type-inv.word k)) left _ xs slice c.in-ok-enter.ensures.cells.1 in
@@ -42,7 +42,7 @@ returns c =
     let w = c.args.word.now in
     let d = c.enter.new.self in
     let xs : Arrays = record { cells = cells_of d; index = index_of d } in
-    let slice = written_slice c.write-path-size.result c.write-path-size.new.path w c.write-path-size.ensures.path in
+    let slice = written_slice c.write_path-size.result c.write_path-size.new.path w c.write_path-size.ensures.path in
     let long = ap length c.index.ensures in
     let left : s.count < min (length (index_of s.array)) 65535 = omega (arith, c.min.ensures, long, c.if-self-min.false) in
     let did = entered_as s w c.requires.sized c.requires.absent (λ k. omega (arith, c.type-inv.word k)) left _ xs slice c.in-ok-enter.ensures.cells.1 in (

@@ -16,11 +16,11 @@ use Rattle.trie_list.proofs.list.TrieList.labels_of.Goals as goal
 written_path : (size : ℕ) (path out after : List ℕ) → size ≡ length path → after ≡ path ++ drop size out → take (size - 0) after ≡ path
 written_path size path out after long e = ap (take (size - 0)) e ∙ take_at path (drop size out) (size - 0) (let z : length path ≡ size - 0 = omega arith in z)
 
-pub write-labels-requires : goal.write-labels-requires
-write-labels-requires c =
+pub write_labels-requires : goal.write_labels-requires
+write_labels-requires c =
     let s = c.args.self.now in
     let m = c.in-Ok.ensures.path in
-    let same = written_path c.in-Ok.size (path_at (cells_of s.array) (index_of s.array) (c.args.number - 1)) _ c.path-of.new.out m.1 m.2 in
+    let same = written_path c.in-Ok.size (path_at (cells_of s.array) (index_of s.array) (c.args.number - 1)) _ c.path_of.new.out m.1 m.2 in
     record {
       word = ap word_path same ∙ path_words s c.args.number c.requires;
       codes = ap all_codes same ∙ path_all_codes s c.args.number c.requires;
@@ -31,10 +31,10 @@ returns-in-Ok c =
     let s = c.args.self.now in
     let p = path_at (cells_of s.array) (index_of s.array) (c.args.number - 1) in
     let m = c.in-Ok.ensures.path in
-    let same = written_path c.in-Ok.size p _ c.path-of.new.out m.1 m.2 in
+    let same = written_path c.in-Ok.size p _ c.path_of.new.out m.1 m.2 in
     let size = label_bounds (labels_of p) (word_path_parts p (path_words s c.args.number c.requires)).1 in (
-      c.write-labels.ensures.labels ∙ ap labels_of same ∙ word_labels s c.args.number c.requires,
-      omega (arith, c.write-labels.ensures.size, ap (λ (z : List ℕ). length (labels_of z)) same, size.1),
+      c.write_labels.ensures.labels ∙ ap labels_of same ∙ word_labels s c.args.number c.requires,
+      omega (arith, c.write_labels.ensures.size, ap (λ (z : List ℕ). length (labels_of z)) same, size.1),
     )
 
 pub returns-in-Err : goal.returns-in-Err

@@ -11,7 +11,7 @@ returns-in-Some c =
     let s = c.args.self.now in
     let w = c.args.word.now in
     c.in-Some.ensures.number
-    ∙ ap (number_at (cells_of s.array)) (written_slice c.write-path-size.result c.write-path-size.new.path w c.write-path-size.ensures.path)
+    ∙ ap (number_at (cells_of s.array)) (written_slice c.write_path-size.result c.write_path-size.new.path w c.write_path-size.ensures.path)
     ∙ number_is (cells_of s.array) (index_of s.array) s.count (listed s) w
 
 pub returns-in-None : goal.returns-in-None
@@ -19,5 +19,5 @@ returns-in-None c =
     let s = c.args.self.now in
     let w = c.args.word.now in
     c.in-None.ensures.number
-    ∙ ap (number_at (cells_of s.array)) (written_slice c.write-path-size.result c.write-path-size.new.path w c.write-path-size.ensures.path)
+    ∙ ap (number_at (cells_of s.array)) (written_slice c.write_path-size.result c.write_path-size.new.path w c.write_path-size.ensures.path)
     ∙ number_is (cells_of s.array) (index_of s.array) s.count (listed s) w

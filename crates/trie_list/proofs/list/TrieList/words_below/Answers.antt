@@ -15,16 +15,16 @@ returns c =
     let out = c.args.out.now in
     let cs = cells_of s.array in
     let is = index_of s.array in
-    let path = c.write-path.new.path in
-    let m = c.numbers-below.ensures in
-    let slice = codes_slice b path (ap (λ (n : ℕ). take n path) (sym c.write-path.ensures.size) ∙ c.write-path.ensures.path) in
+    let path = c.write_path.new.path in
+    let m = c.numbers_below.ensures in
+    let slice = codes_slice b path (ap (λ (n : ℕ). take n path) (sym c.write_path.ensures.size) ∙ c.write_path.ensures.path) in
     let fit : leb (length b) 128 ≡ true = le-leb (length b) 128 c.if-beginning-gt128.false in
-    let all = told (below_of s b) out c.numbers-below.result c.numbers-below.new.out
-    (subst (λ (z : List ℕ). Filled (numbers_from cs z) out c.numbers-below.result c.numbers-below.new.out) slice m.output) in
+    let all = told (below_of s b) out c.numbers_below.result c.numbers_below.new.out
+    (subst (λ (z : List ℕ). Filled (numbers_from cs z) out c.numbers_below.result c.numbers_below.new.out) slice m.output) in
     let words = words_below s b (subst (λ (z : List ℕ). Members cs z (numbers_from cs z)) slice m.members) (subst (λ (z : List ℕ). Ordered cs is (numbers_from cs z)) slice m.order) in
     record {
-      answer = c.ok-or.ensures.value ∙ all.answer ∙ sym (cond-true (leb (length b) 128) _ _ fit);
+      answer = c.ok_or.ensures.value ∙ all.answer ∙ sym (cond-true (leb (length b) 128) _ _ fit);
       output = all.output ∙ sym (cond-true (leb (length b) 128) _ _ fit);
-      within = subst (λ (z : Result ℕ ListFault). IfOk z (λ n. n ≤ length out)) (sym c.ok-or.ensures.value) all.within;
-      words = made_always c.ok-or.result _ words;
+      within = subst (λ (z : Result ℕ ListFault). IfOk z (λ n. n ≤ length out)) (sym c.ok_or.ensures.value) all.within;
+      words = made_always c.ok_or.result _ words;
     }
