@@ -1,5 +1,5 @@
 -- The lowest base is one number, and a search finds it.
-use Rattle.std.proofs.Common.{◌≡◌, ℕ, zero, suc, ◌+◌, ◌<◌, ◌≤◌, Bool, true, false, eqb, ◌⊎◌, List, length, ℤ, pos, negsuc, Some, None, Decides, Option, sym, refl, ap, subst, ⊎_elim, add-zero, add-suc, arith}
+use Rattle.std.proofs.Common.{◌≡◌, ℕ, zero, suc, ◌+◌, ◌<◌, ◌≤◌, Bool, false, eqb, List, length, ℤ, pos, negsuc, Some, None, Decides, Option, sym, refl, ap, subst, ⊎_elim, add-zero, add-suc, arith}
 use Rattle.std.proofs.lemmas.Bool.Decides.{Decides-like, Decides-eqb, Decides-ltb, Decides-and, Decides-by_and, not_from_Decides}
 use Rattle.std.proofs.lemmas.List.Elements.{All-get_or, All-from_get_or}
 use Rattle.std.proofs.lemmas.Bool.{cases_order, cases_eq, cond_both, false≢true}

@@ -1,5 +1,5 @@
 -- The walk follows the paths.
-use Rattle.std.proofs.Common.{◌≡◌, ℕ, zero, suc, ◌+◌, ◌<◌, true, false, cond, ◌&&◌, ltb, ◌⊎◌, List, [], ◌∷◌, ◌++◌, length, ℤ, pos, negsuc, is_some, Some, None, All, Option, sym, refl, ap, ◌∙◌, subst, inl, inr, ⊎_elim, append-nil, arith}
+use Rattle.std.proofs.Common.{◌≡◌, ℕ, zero, suc, ◌+◌, ◌<◌, true, false, cond, ◌&&◌, ltb, ◌⊎◌, List, [], ◌∷◌, ◌++◌, length, ℤ, pos, negsuc, is_some, Some, None, Option, sym, refl, ap, ◌∙◌, subst, inl, inr, ⊎_elim, append-nil, arith}
 use lib.Signed.{lt_z}
 use Rattle.std.proofs.lemmas.Bool.{cases_eq, cond-true, cond_both, and_parts, and_from, lt-ltb, ltb-true, eqb-true, both_ways}
 use Rattle.cells.specs.declared.Cell.{Cell}
@@ -13,7 +13,8 @@ use Rattle.cells.proofs.Relocations.{positive, same_int_yes}
 
 -- each of them is a code
 abbrev pub Codes : List ℕ → Type 0
-Codes p = All (λ a. (0 < a) × (a < 258)) p
+Codes [] = Unit {0}
+Codes (a ∷ p) = ((0 < a) × (a < 258)) × Codes p
 
 positive_back : (z : ℤ) → lt_z (pos 0) z ≡ true → 0 < nat z
 positive_back (pos n) e = ltb-true 0 n e

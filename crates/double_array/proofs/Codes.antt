@@ -1,6 +1,6 @@
 -- The codes of a cell's children, one more.
 use Rattle.std.proofs.Common.{◌≡◌, ℕ, zero, suc, ◌+◌, ◌<◌, true, false, cond, ◌&&◌, ltb, List, [], ◌∷◌, ◌++◌, length, get_or, take, set, is_some, Some, None, All, Option, sym, refl, ap, ◌∙◌, subst, ⊎_elim, append-nil, add-one, arith}
-use Rattle.std.proofs.lemmas.List.Elements.{All-get_or, All-append}
+use Rattle.std.proofs.lemmas.List.Elements.{All-nil, All-cons, All-get_or, All-append}
 use Rattle.std.proofs.lemmas.List.{take_more_set}
 use Rattle.std.proofs.lemmas.Bool.{cond-true, cond-false, cond_both, and_from, and_right, and_parts, both_ways, cases_eq, lt-ltb, ltb-true}
 use Rattle.cells.specs.declared.Cell.{Cell}
@@ -35,11 +35,11 @@ child_in cs s a =
 one_in : (cs : List Cell) (s n : ℕ) → All (λ a. base_of cs s + a < length cs) (cond (ltb 0 n && is_some (child cs s n)) (n ∷ []) [])
 one_in cs s n =
     cond_both (ltb 0 n && is_some (child cs s n)) (n ∷ []) [] (All (λ a. base_of cs s + a < length cs))
-    (λ e. (child_in cs s n (and_parts _ _ e).1, tt)) (λ e. tt)
+    (λ e. All-cons (λ a. base_of cs s + a < length cs) n [] (child_in cs s n (and_parts _ _ e).1) (All-nil (λ a. base_of cs s + a < length cs))) (λ e. All-nil (λ a. base_of cs s + a < length cs))
 
 codes_in : (cs : List Cell) (s n : ℕ) → All (λ a. base_of cs s + a < length cs) (codes_below cs s n)
 unfolding codes_below
-codes_in cs s zero = tt
+codes_in cs s zero = All-nil (λ a. base_of cs s + a < length cs)
 codes_in cs s (suc n) = All-append (λ a. base_of cs s + a < length cs) (codes_below cs s n) _ (codes_in cs s n) (one_in cs s n)
 
 pub codes_within : (cs : List Cell) (s n k : ℕ) → k < length (codes_below cs s n) → base_of cs s + get_or (codes_below cs s n) k 0 < length cs

@@ -9,12 +9,20 @@ use Rattle.cells.specs.Invariant.{Rooted, Bare, Blank, Reached, Ended, Sound}
 -- the ghost fields in their order
 abbrev pub Fields : List Cell → List ℕ → Type 0
 Fields cs is =
-    (length cs ≤ 1048576)
-    × (Rooted cs × (Bare cs × (Blank cs × (Reached cs × (Ended cs × (Leads cs is × (Entered cs is × Unit {0})))))))
+    record { sized : length cs ≤ 1048576; rooted : Rooted cs; bare : Bare cs; blank : Blank cs; reached : Reached cs; ended : Ended cs; leads : Leads cs is; entered : Entered cs is }
 
 pub fields : (cs xs : List Cell) (is js : List ℕ) → xs ≡ cs → js ≡ is → length cs ≤ 1048576 → Sound cs is → Fields xs js
 fields cs xs is js e f few s =
-    subst₂ Fields (sym e) (sym f) (few, (s.rooted, (s.bare, (s.blank, (s.reached, (s.ended, (s.leads, (s.entered, tt))))))))
+    subst₂ Fields (sym e) (sym f) (record {
+      sized = few;
+      rooted = s.rooted;
+      bare = s.bare;
+      blank = s.blank;
+      reached = s.reached;
+      ended = s.ended;
+      leads = s.leads;
+      entered = s.entered;
+    })
 
 -- what was lent holds a sound array again
 pub sound_from : (d : DoubleArray) → Sound (cells_of d) (index_of d)

@@ -1,11 +1,10 @@
 -- A double array whose cells and index are as they were is the very same.
-use Rattle.std.proofs.Common.{◌≡◌, ℕ, ◌^◌, ◌<◌, ◌≤◌, List, length, IfNone, IfErr, Some, None, Ok, Err, vec_items, Option, Result, Vec, sym, refl, ap, ◌∙◌, arith}
+use Rattle.std.proofs.Common.{◌≡◌, ℕ, ◌≤◌, List, length, IfNone, IfErr, Some, None, Ok, Err, vec_items, Option, Result, Vec, sym, ap, ◌∙◌}
 use mathlib.Core.HLevel.{is_prop→PathP}
 use native.Mathlib.Bridge.{le_prop}
 use native.Mathlib.Nat.{ℕ_set}
 use denote.Struct.Props.{props}
 use Rattle.std.specs.Vec.{with_items}
-use Rattle.std.specs.declared.alloc.Global.{Global}
 use Rattle.std.proofs.lemmas.List.{with_items_is}
 use Rattle.cells.specs.contracts.Cell.{the_row as cell_row}
 use Rattle.cells.specs.declared.Cell.{Cell}

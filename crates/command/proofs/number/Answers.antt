@@ -1,7 +1,7 @@
 use Rattle.std.proofs.Common.{ℕ, Some, sym, ap, ◌∙◌, arith}
 use Rattle.command.proofs.Readings.{none_undigits, none_over, some_number, reading_more, reading_low, reading_high, reading_ge, reading_all}
 use Rattle.command.proofs.number.Goals as goal
-use Rattle.command.proofs.number.Goals.{then-digit-lt48-via-then-digit-lt48, then_digit_lt48_via_else_digit_lt48+then_digit_gt57}
+use Rattle.command.proofs.number.Goals.{then-digit-lt48-via-then-digit-lt48, then-digit-lt48-via-else-digit-lt48+then-digit-gt57}
 
 pub returns-then-digit-lt48 : goal.returns-then-digit-lt48
 returns-then-digit-lt48 c =
@@ -12,7 +12,7 @@ returns-then-digit-lt48 c =
         value = sym (none_undigits c.args.limit s (reading_low s l.digit-index l.n l.invariant.0 c.loop-digit-test.true w.if-digit-lt48.true));
         bound = tt;
       }
-      | then_digit_lt48_via_else_digit_lt48+then_digit_gt57 w ↦ record {
+      | then-digit-lt48-via-else-digit-lt48+then-digit-gt57 w ↦ record {
         value = sym (none_undigits c.args.limit s (reading_high s l.digit-index l.n l.invariant.0 c.loop-digit-test.true w.if-digit-gt57.true));
         bound = tt;
       }

@@ -11,8 +11,8 @@ use Rattle.share.proofs.Laws.{share_law}
 use Rattle.share.proofs.Rounds.{nearest}
 use Rattle.share.proofs.share.Goals as goal
 
-pub returns-in-err-link : goal.returns-in-err-link
-returns-in-err-link g c =
+pub returns-in_err-link : goal.returns-in_err-link
+returns-in_err-link g c =
     let l = c.args.list.now in
     let t = c.args.table.now.links in
     let rs = c.args.records.now in
@@ -20,13 +20,13 @@ returns-in-err-link g c =
     let y = c.args.y.now in
     let q = c.args.relation in
     let m = g.met.S.Script in
-    let p = err_from_is_err_and c.from-residual.result c.from-residual.ensures.1 in
-    let answer : g.L.ReadableList.sound l → c.from-residual.result ≡ share_answer t rs q (link_answer (word_kit g.S.Script g.L.ReadableList) l t x y q) =
-    λ ok. p.1 ∙ ap (λ (e : Refusal). Err e) p.2 ∙ ap (share_answer t rs q) (c.in-err-link.ensures ok) in
+    let p = err_from_is_err_and c.from_residual.result c.from_residual.ensures.1 in
+    let answer : g.L.ReadableList.sound l → c.from_residual.result ≡ share_answer t rs q (link_answer (word_kit g.S.Script g.L.ReadableList) l t x y q) =
+    λ ok. p.1 ∙ ap (λ (e : Refusal). Err e) p.2 ∙ ap (share_answer t rs q) (c.in_err-link.ensures ok) in
     record {
       answer = answer;
       nearest = nearest;
-      law = share_law (tally_kit g.S.Script g.L.ReadableList) (words_apart g.S.Script.spelling g.S.Script.width m.narrow.0 m.even m.apart) l t rs x y q c.from-residual.result answer;
+      law = share_law (tally_kit g.S.Script g.L.ReadableList) (words_apart g.S.Script.spelling g.S.Script.width m.narrow.0 m.even m.apart) l t rs x y q c.from_residual.result answer;
     }
 
 pub returns : goal.returns
@@ -39,10 +39,10 @@ returns g c =
     let q = c.args.relation in
     let m = g.met.S.Script in
     let K = word_kit g.S.Script g.L.ReadableList in
-    let link = c.in-ok-link.link in
+    let link = c.in_ok-link.link in
     let total = c.total-total.ensures.sum ∙ ap (λ (s : LinkTable). total_of s rs link.x q) c.links.ensures in
     let answer : g.L.ReadableList.sound l → Ok c.millionths.result ≡ share_answer t rs q (link_answer K l t x y q) =
-    λ ok. share_is K l t rs x y q link (c.in-ok-link.ensures ok) c.millionths.result c.count_at-count.result c.total-total.result c.count_at-count.ensures total c.millionths.ensures in
+    λ ok. share_is K l t rs x y q link (c.in_ok-link.ensures ok) c.millionths.result c.count_at-count.result c.total-total.result c.count_at-count.ensures total c.millionths.ensures in
     record {
       answer = answer;
       nearest = nearest;

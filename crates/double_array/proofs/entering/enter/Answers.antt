@@ -6,7 +6,7 @@ use Rattle.double_array.specs.Entries.{follow}
 use Rattle.double_array.proofs.Follows.{stop}
 use Rattle.double_array.proofs.Refusals.{blocked, judged_by, codes_of, some_of, at_end, at_leaf, leaves, entered, missing, short_new, short_none}
 use Rattle.double_array.proofs.entering.enter.Goals as goal
-use Rattle.double_array.proofs.entering.enter.Goals.{then-i-path-via-then-i-path, then_i_path_via_else_i_path+then_is_leaf}
+use Rattle.double_array.proofs.entering.enter.Goals.{then-i-path-via-then-i-path, then-i-path-via-else-i-path+then-is_leaf}
 
 pub returns-then-cells-lt2 : goal.returns-then-cells-lt2
 returns-then-cells-lt2 c =
@@ -32,7 +32,7 @@ returns-then-i-path c =
     let left = c.follow-s.ensures.rest in
     elim c.then-i-path.branch [
       | then-i-path-via-then-i-path w ↦ (blocked cs is p u path number (at_end cs is p u path number s (drop i p) node left (omega (arith, length-drop i p, w.if-i-path.true))), refl, refl)
-      | then_i_path_via_else_i_path+then_is_leaf w ↦ (blocked cs is p u path number (at_leaf cs is p u path number s (drop i p) node left w.if-is_leaf.ensures), refl, refl)
+      | then-i-path-via-else-i-path+then-is_leaf w ↦ (blocked cs is p u path number (at_leaf cs is p u path number s (drop i p) node left w.if-is_leaf.ensures), refl, refl)
     ]
 
 pub extend-requires : goal.extend-requires

@@ -10,14 +10,14 @@ loop-init c =
     let all : length c.args.cells.now - 0 ≡ length c.args.cells.now = omega arith in
     (c.requires.used, omega arith, omega (arith, ap (λ k. length (climb k c.args.cells.now c.args.t [])) all))
 
-pub offset-bounds-cells-s : goal.offset-bounds-cells-s
-offset-bounds-cells-s c = let h : c.loop.s < length c.args.cells.now = within _ _ c.loop.invariant.0 in search rules
+pub offset_bounds-cells-s : goal.offset_bounds-cells-s
+offset_bounds-cells-s c = let h : c.loop.s < length c.args.cells.now = within _ _ c.loop.invariant.0 in search rules
 
 pub bounds-cells-s : goal.bounds-cells-s
 bounds-cells-s c = within _ _ c.loop.invariant.0
 
-pub overflow-add-n : goal.overflow-add-n
-overflow-add-n c = let h = c.loop.invariant.1 in search rules
+pub overflow_add-n : goal.overflow_add-n
+overflow_add-n c = let h = c.loop.invariant.1 in search rules
 
 pub loop-preserved : goal.loop-preserved
 loop-preserved c =

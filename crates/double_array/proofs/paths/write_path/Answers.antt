@@ -14,8 +14,8 @@ loop-i-init c =
     let all : length cs - (length out - length out) ≡ length cs = omega arith in
     (c.requires.used, ap (λ k. climb k cs c.args.t (drop (length out) out)) all ∙ ap (climb (length cs) cs c.args.t) (drop_all (length out) out (omega arith)))
 
-pub offset-bounds-cells-s : goal.offset-bounds-cells-s
-offset-bounds-cells-s c = let h : c.loop-i.s < length c.args.cells.now = within _ _ c.loop-i.invariant.0 in search rules
+pub offset_bounds-cells-s : goal.offset_bounds-cells-s
+offset_bounds-cells-s c = let h : c.loop-i.s < length c.args.cells.now = within _ _ c.loop-i.invariant.0 in search rules
 
 pub bounds-cells-s : goal.bounds-cells-s
 bounds-cells-s c = within _ _ c.loop-i.invariant.0
@@ -35,12 +35,12 @@ module _ (c : goal.After-cell_number-above) where
 pub bounds-cells-above : goal.bounds-cells-above
 bounds-cells-above c = omega (arith, above c, within c.args.cells.now (parent c.args.cells.now c.loop-i.s) (going c).0)
 
-pub overflow-sub-out : goal.overflow-sub-out
-overflow-sub-out c =
+pub overflow_sub-out : goal.overflow_sub-out
+overflow_sub-out c =
     let cs = c.args.cells.now in
-    let up = above (goal.at.overflow-sub-out c).After-cell_number-above in
+    let up = above (goal.at.overflow_sub-out c).After-cell_number-above in
     let low : c.cell_number.result ≡ base_of cs c.cell_number-above.result = search rules in
-    omega (arith, (going (goal.at.overflow-sub-out c).After-cell_number-above).1, ap (base_of cs) up)
+    omega (arith, (going (goal.at.overflow_sub-out c).After-cell_number-above).1, ap (base_of cs) up)
 
 pub loop-i-preserved : goal.loop-i-preserved
 loop-i-preserved c =

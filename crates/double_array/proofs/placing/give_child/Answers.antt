@@ -7,7 +7,7 @@ use Rattle.cells.specs.Placing.{relocated, index_relocated}
 use Rattle.double_array.specs.Outcomes.{Given}
 use Rattle.double_array.proofs.Giving.{here_test, full_test, none_test, place_here, place_far, old_within, new_within, child_within, written}
 use Rattle.double_array.proofs.placing.give_child.Goals as goal
-use Rattle.double_array.proofs.placing.give_child.Goals.{else_n_gt0_via_then_n_gt0+else_is_free, else-n-gt0-via-else-n-gt0}
+use Rattle.double_array.proofs.placing.give_child.Goals.{else-n-gt0-via-then-n-gt0+else-is_free, else-n-gt0-via-else-n-gt0}
 
 pub returns-then-is_free : goal.returns-then-is_free
 returns-then-is_free c =
@@ -27,8 +27,8 @@ returns-then-is_free c =
       within = omega (arith, length-set cs (c.cell_number.result + a) (record { base = to_z w32 (of_z w32 c.args.base); check = to_z w32 s }), inside_here);
     }
 
-pub returns-in-err-new : goal.returns-in-err-new
-returns-in-err-new c =
+pub returns-in_err-new : goal.returns-in_err-new
+returns-in_err-new c =
     let cs = c.args.cells.now in
     let is = c.args.index.now in
     let s = c.args.s in
@@ -40,13 +40,13 @@ returns-in-err-new c =
     let low : c.cell_number.result ≡ base_of cs s = search rules in
     let test : (some_code (child_codes cs s) && is_free cs (c.cell_number.result + a)) ≡ false =
     elim c.else-n-gt0.branch [
-      | else_n_gt0_via_then_n_gt0+else_is_free w ↦ full_test cs is s a n out lt got (c.cell_number.result + a) (sym w.if-is_free.ensures)
+      | else-n-gt0-via-then-n-gt0+else-is_free w ↦ full_test cs is s a n out lt got (c.cell_number.result + a) (sym w.if-is_free.ensures)
       | else-n-gt0-via-else-n-gt0 w ↦ none_test cs is s a n out lt got (c.cell_number.result + a) w.if-n-gt0.false
     ] in
-    let none = place_far cs is s a n out lt got c.args.base None (subst (λ b. (some_code (child_codes cs s) && is_free cs (b + a)) ≡ false) low test) c.in-err-new.ensures in
+    let none = place_far cs is s a n out lt got c.args.base None (subst (λ b. (some_code (child_codes cs s) && is_free cs (b + a)) ≡ false) low test) c.in_err-new.ensures in
     record {
-      place = subst (λ o. Given cs is s a c.args.base o cs is) (sym c.from-residual.ensures) (none, refl, refl);
-      within = subst (λ o. IfSome o (λ t. t < length cs)) (sym c.from-residual.ensures) tt;
+      place = subst (λ o. Given cs is s a c.args.base o cs is) (sym c.from_residual.ensures) (none, refl, refl);
+      within = subst (λ o. IfSome o (λ t. t < length cs)) (sym c.from_residual.ensures) tt;
     }
 
 pub move_family-requires : goal.move_family-requires
@@ -56,8 +56,8 @@ move_family-requires c =
     let out = c.child_codes-n.new.out in
     let lt : n < length out = omega arith in
     let got = c.child_codes-n.ensures.codes in
-    let new = c.in-ok-new.new in
-    let e = c.in-ok-new.ensures in
+    let new = c.in_ok-new.new in
+    let e = c.in_ok-new.ensures in
     record {
       room = c.requires.room;
       within = c.requires.within;
@@ -67,16 +67,16 @@ move_family-requires c =
     }
 
 -- the cell that was found for the child
-inside : (c : goal.After-slice-known-2·1) → c.in-ok-new.new + c.args.code < length c.args.cells.now
+inside : (c : goal.After-slice_known-2-1) → c.in_ok-new.new + c.args.code < length c.args.cells.now
 inside c =
     child_within c.args.cells.now c.args.index.now c.args.s c.args.code c.child_codes-n.result c.child_codes-n.new.out (omega arith)
-    c.child_codes-n.ensures.codes c.in-ok-new.new c.in-ok-new.ensures
+    c.child_codes-n.ensures.codes c.in_ok-new.new c.in_ok-new.ensures
 
-pub overflow-add-moved : goal.overflow-add-moved
-overflow-add-moved c = let h = inside c in search rules
+pub overflow_add-moved : goal.overflow_add-moved
+overflow_add-moved c = let h = inside c in search rules
 
-pub offset-bounds-cells-moved : goal.offset-bounds-cells-moved
-offset-bounds-cells-moved c = let h = inside c in search rules
+pub offset_bounds-cells-moved : goal.offset_bounds-cells-moved
+offset_bounds-cells-moved c = let h = inside c in search rules
 
 pub bounds-cells-moved : goal.bounds-cells-moved
 bounds-cells-moved c = omega (arith, inside c)
@@ -94,14 +94,14 @@ returns c =
     let low : c.cell_number.result ≡ base_of cs s = search rules in
     let test : (some_code (child_codes cs s) && is_free cs (c.cell_number.result + a)) ≡ false =
     elim c.else-n-gt0.branch [
-      | else_n_gt0_via_then_n_gt0+else_is_free w ↦ full_test cs is s a n out lt got (c.cell_number.result + a) (sym w.if-is_free.ensures)
+      | else-n-gt0-via-then-n-gt0+else-is_free w ↦ full_test cs is s a n out lt got (c.cell_number.result + a) (sym w.if-is_free.ensures)
       | else-n-gt0-via-else-n-gt0 w ↦ none_test cs is s a n out lt got (c.cell_number.result + a) w.if-n-gt0.false
     ] in
-    let b = c.in-ok-new.new in
+    let b = c.in_ok-new.new in
     let z = c.args.base in
     record {
       place =
-          place_far cs is s a n out lt got z (Some b) (subst (λ b. (some_code (child_codes cs s) && is_free cs (b + a)) ≡ false) low test) c.in-ok-new.ensures
+          place_far cs is s a n out lt got z (Some b) (subst (λ b. (some_code (child_codes cs s) && is_free cs (b + a)) ≡ false) low test) c.in_ok-new.ensures
           ∙ written (relocated cs s (take n (set out n a)) b) (index_relocated cs is s (take n (set out n a)) b) s (b + a) z (to_z w32 (of_z w32 z)) (to_z w32 s) (to_z-of_z w32 z c.ranges.base) (to_z_pos w32 s (omega arith))
           ∙ ap (λ l. Some (record { cells = set l (b + a) (record { base = to_z w32 (of_z w32 z); check = to_z w32 s }); index = index_relocated cs is s (take n (set out n a)) b; spot = b + a })) (sym c.move_family.ensures.cells)
           ∙ ap (λ l. Some (record { cells = set c.move_family.new.cells (b + a) (record { base = to_z w32 (of_z w32 z); check = to_z w32 s }); index = l; spot = b + a })) (sym c.move_family.ensures.leaves);

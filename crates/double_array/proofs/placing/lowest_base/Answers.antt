@@ -1,7 +1,7 @@
 use Rattle.std.proofs.Common.{Some, None, arith, rules, below_more}
 use Rattle.cells.proofs.Lowests.{lowest_is}
 use Rattle.double_array.proofs.placing.lowest_base.Goals as goal
-use Rattle.double_array.proofs.placing.lowest_base.Goals.{then-t-cells-via-then-t-cells, then_t_cells_via_else_t_cells+then_cells_t_ne0, then_t_cells_via_else_t_cells+else_cells_t_ne0+then_cells_t_ne0_2}
+use Rattle.double_array.proofs.placing.lowest_base.Goals.{then-t-cells-via-then-t-cells, then-t-cells-via-else-t-cells+then-cells-t-ne0, then-t-cells-via-else-t-cells+else-cells-t-ne0+then-cells-t-ne0-2}
 
 -- the cell of the code at which the inner loop stopped is not free
 pub bases-preserved : goal.bases-preserved
@@ -11,8 +11,8 @@ bases-preserved c =
     let f = all c.loop-code.code-index c.loop-code-test.true in
     elim c.then-t-cells.branch [
       | then-t-cells-via-then-t-cells w ↦ omega (arith, f.0, w.if-t-cells.true)
-      | then_t_cells_via_else_t_cells+then_cells_t_ne0 w ↦ search rules
-      | then_t_cells_via_else_t_cells+else_cells_t_ne0+then_cells_t_ne0_2 w ↦ search rules
+      | then-t-cells-via-else-t-cells+then-cells-t-ne0 w ↦ search rules
+      | then-t-cells-via-else-t-cells+else-cells-t-ne0+then-cells-t-ne0-2 w ↦ search rules
     ])
 
 -- each code has a free cell at this base, and none below it was so

@@ -4,8 +4,8 @@ use Rattle.std.proofs.lemmas.List.{take_all}
 use Rattle.share.specs.Shares.{count_at, sum_at}
 use Rattle.share.proofs.counts.sum_at.Goals as goal
 
-pub overflow-add-sum : goal.overflow-add-sum
-overflow-add-sum c = omega arith
+pub overflow_add-sum : goal.overflow_add-sum
+overflow_add-sum c = omega arith
 
 pub loop-row-preserved : goal.loop-row-preserved
 loop-row-preserved c =

@@ -20,8 +20,8 @@ sum_at-sum-requires c =
     let rows = front _ _ _ _ c.list_upper-count.ensures.output in
     omega (arith, ap length rows, c.list_upper-count.ensures.output.1, c.list_upper-count.ensures.few)
 
-pub overflow-add-sum : goal.overflow-add-sum
-overflow-add-sum c = omega (arith, c.loop-upper.invariant, c.sum_at-sum.ensures.most)
+pub overflow_add-sum : goal.overflow_add-sum
+overflow_add-sum c = omega (arith, c.loop-upper.invariant, c.sum_at-sum.ensures.most)
 
 pub loop-upper-preserved : goal.loop-upper-preserved
 loop-upper-preserved c =

@@ -25,12 +25,12 @@ room_below-returns-in-None-2 t c =
     let e = below_edges c.args.cells.now c.args.s c.args.left c.if-left-eq0.false c.in-None-2.ensures in
     c.room_edges.ensures ∙ sym (ap (room_after c.args.room) e)
 
-pub room_edges-returns-in-err-rest : goal.room_edges-returns-in-err-rest
-room_edges-returns-in-err-rest t c =
+pub room_edges-returns-in_err-rest : goal.room_edges-returns-in_err-rest
+room_edges-returns-in_err-rest t c =
     let cs = c.args.cells.now in
     let l = c.loop-code in
-    c.from-residual.ensures
-    ∙ room_refused (numbers_below c.args.left cs) cs c.args.s l.code c.loop-code-test.true l.rest c.in-Some.t c.in-Some.ensures c.in-err-rest.ensures
+    c.from_residual.ensures
+    ∙ room_refused (numbers_below c.args.left cs) cs c.args.s l.code c.loop-code-test.true l.rest c.in-Some.t c.in-Some.ensures c.in_err-rest.ensures
     ∙ l.invariant
 
 pub room_edges-returns : goal.room_edges-returns
@@ -47,7 +47,7 @@ room_edges-loop-code-preserved t c =
     let l = c.loop-code in
     elim c.match-child.branch [
       | room_edges_in_Some+in_ok_rest w ↦
-          room_some f cs c.args.s l.code c.loop-code-test.true l.rest w.in-Some.t c.match-child.rest w.in-Some.ensures (ap Some w.rest-is ∙ w.in-ok-rest.ensures) ∙ l.invariant
+          room_some f cs c.args.s l.code c.loop-code-test.true l.rest w.in-Some.t c.match-child.rest w.in-Some.ensures (ap Some w.rest-is ∙ w.in_ok-rest.ensures) ∙ l.invariant
       | room_edges-in-default w ↦
           room_none f cs c.args.s l.code c.loop-code-test.true l.rest c.match-child.rest w.in-default.ensures w.rest-is ∙ l.invariant
     ]

@@ -5,16 +5,16 @@ use Rattle.trie_list.specs.Paths.{ends_once, labels_of}
 use Rattle.trie_list.specs.PathsLemmas.{label_low, length_labels, word_path_size, code_high, labels_written}
 use Rattle.trie_list.proofs.spelling.write_labels.Goals as goal
 
-pub overflow-sub-size : goal.overflow-sub-size
-overflow-sub-size c = omega (arith, (word_path_size c.args.path.now c.requires.word).0)
+pub overflow_sub-size : goal.overflow_sub-size
+overflow_sub-size c = omega (arith, (word_path_size c.args.path.now c.requires.word).0)
 
-pub overflow-sub-labels : goal.overflow-sub-labels
-overflow-sub-labels c =
+pub overflow_sub-labels : goal.overflow_sub-labels
+overflow_sub-labels c =
     let p = c.args.path.now in
     label_low p c.loop-i.i (and_parts (ends_once p) (label_sized (labels_of p)) c.requires.word).0 (omega (arith, c.loop-i-test.true))
 
-pub overflow-cast-labels : goal.overflow-cast-labels
-overflow-cast-labels c = omega (arith, code_high c.args.path.now c.loop-i.i c.requires.codes (omega (arith, c.loop-i-test.true)))
+pub overflow_cast-labels : goal.overflow_cast-labels
+overflow_cast-labels c = omega (arith, code_high c.args.path.now c.loop-i.i c.requires.codes (omega (arith, c.loop-i-test.true)))
 
 pub bounds-labels-i : goal.bounds-labels-i
 bounds-labels-i c = omega (arith, (word_path_size c.args.path.now c.requires.word).1, c.loop-i-test.true)

@@ -7,8 +7,8 @@ use Rattle.double_array.proofs.Changes.{entry_sound, entry_added}
 use Rattle.double_array.proofs.Sames.{same_vec, same_array, entry_same, refused_more}
 use Rattle.double_array.proofs.array.DoubleArray.enter.Goals as goal
 
-pub invariant-of-self : goal.invariant-of-self
-invariant-of-self c =
+pub invariant_of-self : goal.invariant_of-self
+invariant_of-self c =
     let d = c.args.self.now in
     let xs = c.enter.new.cells in
     let js = c.enter.new.index in

@@ -7,8 +7,8 @@ use Rattle.double_array.proofs.Fields.{fields}
 use Rattle.cells.proofs.Starts.{starting}
 use Rattle.double_array.proofs.array.DoubleArray.new.Goals as goal
 
-pub invariant-of-result : goal.invariant-of-result
-invariant-of-result c =
+pub invariant_of-result : goal.invariant_of-result
+invariant_of-result c =
     let xs = c.clear.new.cells in
     let js = c.clear_index.new.index in
     let start = starting xs js (λ j h. c.clear.ensures j (omega arith)) c.clear_index.ensures in

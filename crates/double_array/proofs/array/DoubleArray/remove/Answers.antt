@@ -17,8 +17,8 @@ take_out-requires c =
       parents = subst (λ cs. 1 < length cs → Parented cs) (sym c.as_mut_slice.ensures.value) (λ two. tree_parents (cells_of d) (tidy_of (cells_of d) (index_of d) (sound_from d) two).tree (omega arith));
     }
 
-pub invariant-of-self : goal.invariant-of-self
-invariant-of-self c =
+pub invariant_of-self : goal.invariant_of-self
+invariant_of-self c =
     let d = c.args.self.now in
     let xs = c.take_out.new.cells in
     let js = c.take_out.new.index in

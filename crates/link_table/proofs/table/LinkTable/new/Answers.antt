@@ -6,19 +6,19 @@ use Rattle.link_table.specs.Codes.{path_of_triple, triple_of}
 use Rattle.link_table.proofs.Tables.{new_fields, none_known, none_held}
 use Rattle.link_table.proofs.table.LinkTable.new.Goals as goal
 
-pub invariant-of-result : goal.invariant-of-result
-invariant-of-result c =
+pub invariant_of-result : goal.invariant_of-result
+invariant_of-result c =
     let m = c.new.ensures in
-    new_fields c.new.result m.none m.index (omega (arith, m.index-len, c.truncate.ensures.len, c.min.ensures))
+    new_fields c.new.result m.none m.index (omega (arith, m.index_len, c.truncate.ensures.len, c.min.ensures))
 
 pub returns : goal.returns
 returns c =
     let m = c.new.ensures in
     let d = c.new.result in
     record {
-      cells_long = m.cells-len;
+      cells_long = m.cells_len;
       cells_clear = m.cells;
-      limit_is = omega (arith, m.index-len, c.truncate.ensures.len, c.min.ensures);
+      limit_is = omega (arith, m.index_len, c.truncate.ensures.len, c.min.ensures);
       index_zero = m.index;
       no_triple = λ t. m.none (path_of_triple t);
       no_number = λ u. cond-false (is_known (index_of d) u) (Some (triple_of (path_of (cells_of d) (index_of d) u))) None (none_known d m.none m.index u);

@@ -17,14 +17,14 @@ returns-in-default c =
     let none = none_of (found s t) (ap is_some (ap (number_at cs) (sym e) ∙ sym c.number_at.ensures.number) ∙ sym c.is_some.ensures ∙ c.if-is_some.false) in
     (put_full s t none (subst (λ (l : List ℕ). (k : ℕ) → k < length l → 0 ≤ k → 0 < get_or l k 0) c.index.ensures c.in-default.ensures), refl)
 
-pub invariant-of-self : goal.invariant-of-self
-invariant-of-self c = same_fields c.args.self.now c.enter.new.self c.in-Err.ensures.same
+pub invariant_of-self : goal.invariant_of-self
+invariant_of-self c = same_fields c.args.self.now c.enter.new.self c.in-Err.ensures.same
 
-pub overflow-add-self : goal.overflow-add-self
-overflow-add-self c = omega (arith, count_few c.args.self.now)
+pub overflow_add-self : goal.overflow_add-self
+overflow_add-self c = omega (arith, count_few c.args.self.now)
 
-pub invariant-of-self-in-Ok : goal.invariant-of-self-in-Ok
-invariant-of-self-in-Ok c =
+pub invariant_of-self-in-Ok : goal.invariant_of-self-in-Ok
+invariant_of-self-in-Ok c =
     let s = c.args.self.now in
     let t = c.args.triple in
     let cs = cells_of s.array in

@@ -6,8 +6,8 @@ use Rattle.link_table.specs.Codes.{path_of_triple}
 use Rattle.link_table.proofs.Tables.{same_table, take_held, take_fields, take_done}
 use Rattle.link_table.proofs.table.LinkTable.take.Goals as goal
 
-pub overflow-sub-self : goal.overflow-sub-self
-overflow-sub-self c =
+pub overflow_sub-self : goal.overflow_sub-self
+overflow_sub-self c =
     let s = c.args.self.now in
     let d = c.remove.new.self in
     let m = c.in-Some.ensures in
@@ -16,8 +16,8 @@ overflow-sub-self c =
     let removed = subst (λ (p : List ℕ). Removed (cells_of s.array) p (cells_of d)) e m.paths in
     omega (arith, s.counted, take_held s c.args.triple c.in-Some.number did.0 d m.sizes.1 removed)
 
-pub invariant-of-self-in-Some : goal.invariant-of-self-in-Some
-invariant-of-self-in-Some c =
+pub invariant_of-self-in-Some : goal.invariant_of-self-in-Some
+invariant_of-self-in-Some c =
     let s = c.args.self.now in
     let d = c.remove.new.self in
     let m = c.in-Some.ensures in

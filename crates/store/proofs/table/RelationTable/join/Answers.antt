@@ -5,17 +5,17 @@ use Rattle.store.specs.Links.{JoinsAt}
 use Rattle.store.proofs.Ties.{joins_refusal}
 use Rattle.store.proofs.table.RelationTable.join.Goals as goal
 
-pub returns-in-err-number : goal.returns-in-err-number
-returns-in-err-number g c =
-    let m = c.in-err-number.ensures in
-    let p = err_from_is_err_and c.from-residual.result c.from-residual.ensures.1 in
-    subst (λ (o : Option Refusal). JoinsAt o c.args.self.now.links c.args.records.now c.args.triple c.args.record c.from-residual.result c.put.new.self c.args.records.now)
-    (sym (joins_refusal c.args.self.now.links c.args.triple (Some c.in-err-number.field-0.0) m.0))
+pub returns-in_err-number : goal.returns-in_err-number
+returns-in_err-number g c =
+    let m = c.in_err-number.ensures in
+    let p = err_from_is_err_and c.from_residual.result c.from_residual.ensures.1 in
+    subst (λ (o : Option Refusal). JoinsAt o c.args.self.now.links c.args.records.now c.args.triple c.args.record c.from_residual.result c.put.new.self c.args.records.now)
+    (sym (joins_refusal c.args.self.now.links c.args.triple (Some c.in_err-number.field-0.0) m.0))
     (p.1 ∙ ap (λ (e : Refusal). Err e) p.2, m.1, refl)
 
 pub returns : goal.returns
 returns g c =
-    let m = c.in-ok-number.ensures in
-    subst (λ (o : Option Refusal). JoinsAt o c.args.self.now.links c.args.records.now c.args.triple c.args.record (Ok (record { x = c.args.triple.x; y = c.args.triple.y; number = c.in-ok-number.number })) c.put.new.self c.write_record.new.records)
+    let m = c.in_ok-number.ensures in
+    subst (λ (o : Option Refusal). JoinsAt o c.args.self.now.links c.args.records.now c.args.triple c.args.record (Ok (record { x = c.args.triple.x; y = c.args.triple.y; number = c.in_ok-number.number })) c.put.new.self c.write_record.new.records)
     (sym (joins_refusal c.args.self.now.links c.args.triple None m.0))
-    (c.in-ok-number.number, refl, m.1, c.write_record.ensures)
+    (c.in_ok-number.number, refl, m.1, c.write_record.ensures)

@@ -9,22 +9,22 @@ use Rattle.trie_list.specs.RollsLemmas.{grown_listed, grown_words}
 use Rattle.trie_list.specs.Lists.{listed, append_refused, refused_place, room_yes, entered_as}
 use Rattle.trie_list.proofs.list.TrieList.append.Goals as goal
 
-pub returns-in-err-enter : goal.returns-in-err-enter
-returns-in-err-enter c =
+pub returns-in_err-enter : goal.returns-in_err-enter
+returns-in_err-enter c =
     let s = c.args.self.now in
     let w = c.args.word.now in
-    let m = c.in-err-enter.ensures in
-    let e = c.in-err-enter.field-0.0 in
+    let m = c.in_err-enter.ensures in
+    let e = c.in_err-enter.field-0.0 in
     let slice = written_slice c.write_path-size.result c.write_path-size.new.path w c.write_path-size.ensures.path in
     let long = ap length c.index.ensures in
     let left : s.count < min (length (index_of s.array)) 65535 = omega (arith, c.min.ensures, long, c.if-self-min.false) in
-    let said = refused_place s w c.requires.sized c.requires.absent (λ k. omega (arith, c.type-inv.word k)) left e
+    let said = refused_place s w c.requires.sized c.requires.absent (λ k. omega (arith, c.type_inv.word k)) left e
     (subst (λ (z : List ℕ). refusal (cells_of s.array) (index_of s.array) z (s.count + 1) ≡ Some e) slice m.cells.0) in
-    let p = err_from_is_err_and c.from-residual.result c.from-residual.ensures.1 in
-    append_refused s w c.from-residual.result _ p.0 p.1 (p.2 ∙ ap path_refusal said.0) said.1 m.same refl
+    let p = err_from_is_err_and c.from_residual.result c.from_residual.ensures.1 in
+    append_refused s w c.from_residual.result _ p.0 p.1 (p.2 ∙ ap path_refusal said.0) said.1 m.same refl
 
-pub invariant-of-self-2 : goal.invariant-of-self-2
-invariant-of-self-2 c =
+pub invariant_of-self-2 : goal.invariant_of-self-2
+invariant_of-self-2 c =
     let s = c.args.self.now in
     let w = c.args.word.now in
     let d = c.enter.new.self in
@@ -32,7 +32,7 @@ invariant-of-self-2 c =
     let slice = written_slice c.write_path-size.result c.write_path-size.new.path w c.write_path-size.ensures.path in
     let long = ap length c.index.ensures in
     let left : s.count < min (length (index_of s.array)) 65535 = omega (arith, c.min.ensures, long, c.if-self-min.false) in
-    let did = entered_as s w c.requires.sized c.requires.absent (λ k. omega (arith, c.type-inv.word k)) left _ xs slice c.in-ok-enter.ensures.cells.1 in
+    let did = entered_as s w c.requires.sized c.requires.absent (λ k. omega (arith, c.type_inv.word k)) left _ xs slice c.in_ok-enter.ensures.cells.1 in
     let l = grown_listed (cells_of s.array) (index_of s.array) s.count (listed s) w xs c.requires.sized (omega arith) (omega arith) did in
     (l.within, (l.few, (l.numbered, (l.unnumbered, (l.counted, (l.worded, tt))))))
 
@@ -45,8 +45,8 @@ returns c =
     let slice = written_slice c.write_path-size.result c.write_path-size.new.path w c.write_path-size.ensures.path in
     let long = ap length c.index.ensures in
     let left : s.count < min (length (index_of s.array)) 65535 = omega (arith, c.min.ensures, long, c.if-self-min.false) in
-    let did = entered_as s w c.requires.sized c.requires.absent (λ k. omega (arith, c.type-inv.word k)) left _ xs slice c.in-ok-enter.ensures.cells.1 in (
-      room_yes s w c.requires.sized c.requires.absent (λ k. omega (arith, c.type-inv.word k)) left xs did,
+    let did = entered_as s w c.requires.sized c.requires.absent (λ k. omega (arith, c.type_inv.word k)) left _ xs slice c.in_ok-enter.ensures.cells.1 in (
+      room_yes s w c.requires.sized c.requires.absent (λ k. omega (arith, c.type_inv.word k)) left xs did,
       refl,
       record { arrays_after = did; count_after = refl },
       grown_words (cells_of s.array) (index_of s.array) s.count (listed s) w xs c.requires.sized (omega arith) (omega arith) did,
