@@ -1,11 +1,11 @@
 -- No path of a new triple is blocked: where all held paths have five codes, none runs through another's leaf, and none ends
 -- above one.
-use Rattle.std.proofs.Common.{◌≡◌, ℕ, zero, suc, ◌+◌, ◌<◌, ◌≤◌, Bool, true, false, cond, not, ◌&&◌, ◌⊎◌, List, [], ◌∷◌, ◌++◌, length, ℤ, pos, negsuc, is_some, Some, None, Option, sym, refl, ap, ◌∙◌, subst, inl, inr, ⊎_elim, append_assoc, append-nil, arith, length-append}
+use Rattle.std.proofs.Common.{◌≡◌, ℕ, suc, ◌<◌, true, false, not, ◌&&◌, List, [], ◌∷◌, ◌++◌, length, is_some, Some, None, Option, sym, refl, ap, ◌∙◌, subst, ⊎_elim, append-nil, arith, length-append}
 use Rattle.std.proofs.lemmas.Bool.{cases_Bool, cases_lt, and_from, both_ways, not_from_false}
 use Rattle.cells.specs.declared.Cell.{Cell}
 use Rattle.cells.specs.Cells.{at, is_leaf, child, some_code, all_codes}
 use Rattle.cells.specs.Invariant.{Sound}
-use Rattle.cells.specs.Trees.{Edge, Reach, Held}
+use Rattle.cells.specs.Trees.{Reach, Held}
 use Rattle.cells.specs.Walking.{number_at, turned}
 use Rattle.cells.proofs.Basics.{no_some}
 use Rattle.cells.proofs.Climbs.{turned_turned, turned_back, codes_from, held_number}

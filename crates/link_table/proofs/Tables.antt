@@ -11,7 +11,6 @@ use Rattle.refusal.specs.declared.PathFault.{PathFault}
 use Rattle.refusal.specs.declared.NumberFault.{NumberFault}
 use Rattle.refusal.specs.declared.NumberFault.TheVariants.{Unknown, Short}
 use Rattle.refusal.specs.declared.LinkFault.TheVariants.{TriplePresent, NoPlace, NumbersHeld}
-use Rattle.cells.specs.declared.Cell.{Cell}
 use Rattle.cells.specs.Cells.{all_codes}
 use Rattle.cells.specs.Counting.{same_path}
 use Rattle.cells.specs.Placing.{Arrays, enter}
@@ -20,7 +19,7 @@ use Rattle.cells.specs.Walking.{number_at}
 use Rattle.cells.proofs.Basics.{no_some, some_same}
 use Rattle.cells.proofs.Numbers.{decides_same}
 use Rattle.cells.proofs.Pigeons.{in_counting, apart_counting, in_kept, from_kept, apart_kept}
-use Rattle.double_array.specs.Entries.{is_path, is_open, no_place, refusal, Added}
+use Rattle.double_array.specs.Entries.{is_open, no_place, refusal, Added}
 use Rattle.double_array.specs.Outcomes.{Removed}
 use Rattle.double_array.specs.Spellings.{is_known, path_of, unwritten}
 use Rattle.double_array.specs.Views.{cells_of, index_of}
@@ -41,11 +40,12 @@ use Rattle.link_table.proofs.Holds.{number_low, number_high, new_number, known_b
 
 -- the ghost fields in their order
 abbrev pub Fields : DoubleArray → ℕ → Type 0
-Fields d count = (length (index_of d) ≤ 1048575) × (Triples (cells_of d) × (Numbered (cells_of d) (length (index_of d)) × ((count ≡ length (held (index_of d))) × Unit {0})))
+Fields d count =
+    record { few : length (index_of d) ≤ 1048575; triples : Triples (cells_of d); numbered : Numbered (cells_of d) (length (index_of d)); counted : count ≡ length (held (index_of d)) }
 
 -- an array that is as it was
 pub same_fields : (s : LinkTable) (d : DoubleArray) → d ≡ s.array → Fields d s.count
-same_fields s d e = subst (λ (x : DoubleArray). Fields x s.count) (sym e) (s.few, (s.triples, (s.numbered, (s.counted, tt))))
+same_fields s d e = subst (λ (x : DoubleArray). Fields x s.count) (sym e) (record { few = s.few; triples = s.triples; numbered = s.numbered; counted = s.counted })
 
 -- two tables with the same array, count and cursor
 pub same_table : (s t : LinkTable) → s.array ≡ t.array → s.count ≡ t.count → s.cursor ≡ t.cursor → s ≡ t
@@ -141,16 +141,12 @@ module _ (d : DoubleArray) (none : (p : List ℕ) → number_at (cells_of d) p �
   none_held = kept_none (is_known (index_of d)) 1 (length (index_of d)) none_known
 
   pub new_fields : length (index_of d) ≤ 1048575 → Fields d 0
-  new_fields few = (
-    few,
-    (
-      (λ p some. absurd (both_ways false refl (ap is_some (sym (none p)) ∙ some))),
-      (
-        (λ p. subst (λ (o : Option ℕ). unwrap_or o 0 ≤ length (index_of d)) (sym (none p)) (omega arith)),
-        (sym none_held, tt),
-      ),
-    ),
-  )
+  new_fields few = record {
+    few = few;
+    triples = λ p some. absurd (both_ways false refl (ap is_some (sym (none p)) ∙ some));
+    numbered = λ p. subst (λ (o : Option ℕ). unwrap_or o 0 ≤ length (index_of d)) (sym (none p)) (omega arith);
+    counted = sym none_held;
+  }
 
 -- what the index and the cells give for a number fills five places
 module _ (s : LinkTable) (u : ℕ) where
@@ -272,7 +268,7 @@ module _ (s : LinkTable) (triple : Triple) (place : ℕ) (codes : all_codes (pat
         held_more (cells_of s.array) (cells_of d) (index_of s.array) (index_of d) (path_of_triple triple) (place + 1) (sound_from s.array) (sound_from d) s.numbered put_numbered long none added
 
     pub put_fields : Fields d (s.count + 1)
-    put_fields = (omega (arith, s.few), (put_triples, (put_numbered, (omega (arith, s.counted, put_held), tt))))
+    put_fields = record { few = omega (arith, s.few); triples = put_triples; numbered = put_numbered; counted = omega (arith, s.counted, put_held) }
 
   -- and the table
   pub put_done : (t : LinkTable) → length (index_of t.array) ≡ length (index_of s.array) → Added (cells_of s.array) (path_of_triple triple) (place + 1) (cells_of t.array)
@@ -341,7 +337,7 @@ module _ (s : LinkTable) (triple : Triple) (u : ℕ) (has : found s triple ≡ S
         known_before (cells_of d) (cells_of s.array) (index_of d) (index_of s.array) (path_of_triple triple) u (sound_from d) (sound_from s.array) take_numbered s.numbered (sym long) gone back
 
     pub take_fields : Fields d (s.count - 1)
-    take_fields = (omega (arith, s.few), (take_triples, (take_numbered, (omega (arith, s.counted, take_held), tt))))
+    take_fields = record { few = omega (arith, s.few); triples = take_triples; numbered = take_numbered; counted = omega (arith, s.counted, take_held) }
 
   -- and the table
   pub take_done : (t : LinkTable) → length (index_of t.array) ≡ length (index_of s.array) → Removed (cells_of s.array) (path_of_triple triple) (cells_of t.array)

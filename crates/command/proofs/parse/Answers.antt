@@ -21,5 +21,5 @@ returns-in-None c =
 pub returns-then-line-gt-LINE_BYTES : goal.returns-then-line-gt-LINE_BYTES
 returns-then-line-gt-LINE_BYTES c = record { command = (refl, line_long c.args.line.now (omega arith)); lines = one_to_one; numbers = reads_back }
 
-pub returns-in-default : goal.returns-in-default
-returns-in-default c = record { command = search rules; lines = one_to_one; numbers = reads_back }
+pub returns-in_default : goal.returns-in_default
+returns-in_default c = record { command = search rules; lines = one_to_one; numbers = reads_back }

@@ -1,4 +1,4 @@
-use Rattle.std.proofs.Common.{◌≡◌, ℕ, ◌<◌, ◌≤◌, true, List, get_or, arith}
+use Rattle.std.proofs.Common.{arith}
 use Rattle.link_table.proofs.Labels.{code_bounds}
 use Rattle.link_table.proofs.codes.read_code.Goals as goal
 

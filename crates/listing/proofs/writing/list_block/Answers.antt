@@ -5,7 +5,7 @@ use Rattle.listing.specs.Parts.{rows_from}
 use Rattle.listing.proofs.Parts.{from_none, from_more, from_few}
 use Rattle.listing.proofs.Places.{placed_none, placed_as, placed_more}
 use Rattle.listing.proofs.writing.list_block.Goals as goal
-use Rattle.listing.proofs.writing.list_block.Goals.{in-Some, in-default}
+use Rattle.listing.proofs.writing.list_block.Goals.{in-Some, in_default}
 
 pub loop-lower-init : goal.loop-lower-init
 loop-lower-init c = placed_none c.args.out.now c.args.at _ _ _ (from_none c.args.table.now c.args.x c.args.relation (256 * c.args.upper)) refl refl
@@ -28,5 +28,5 @@ loop-lower-preserved c =
     placed_more c.args.out.now c.args.at (rows_from t x k b l.lower) one _ l.next m.next l.out m.out (from_more t x k b l.lower) l.invariant
     (elim m.branch [
       | in-Some w ↦ placed_as l.out l.next _ one _ _ _ _ (sym (ap (λ o. row o k y) w.in-Some.ensures.number)) w.next-is w.out-is w.place_row-next.ensures
-      | in-default w ↦ placed_none l.out l.next one _ _ (sym (ap (λ o. row o k y) w.in-default.ensures.number)) w.next-is w.out-is
+      | in_default w ↦ placed_none l.out l.next one _ _ (sym (ap (λ o. row o k y) w.in_default.ensures.number)) w.next-is w.out-is
     ])

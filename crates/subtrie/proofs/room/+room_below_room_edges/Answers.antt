@@ -3,7 +3,7 @@ use Rattle.subtrie.specs.Below.{numbers_below, room_after}
 use Rattle.subtrie.proofs.Steps.{below_leaf, below_none, below_edges, edges_end}
 use Rattle.subtrie.proofs.Rooms.{leaves, too_many, room_some, room_none, room_refused}
 use Rattle.subtrie.proofs.room.+room_below_room_edges.Goals as goal
-use Rattle.subtrie.proofs.room.+room_below_room_edges.Goals.{room_edges_in_Some+in_ok_rest, room_edges-in-default}
+use Rattle.subtrie.proofs.room.+room_below_room_edges.Goals.{room_edges-in-Some+in_ok-rest, room_edges-in_default}
 
 pub room_below-returns-in-Some : goal.room_below-returns-in-Some
 room_below-returns-in-Some t c =
@@ -46,8 +46,8 @@ room_edges-loop-code-preserved t c =
     let f = numbers_below c.args.left cs in
     let l = c.loop-code in
     elim c.match-child.branch [
-      | room_edges_in_Some+in_ok_rest w ↦
+      | room_edges-in-Some+in_ok-rest w ↦
           room_some f cs c.args.s l.code c.loop-code-test.true l.rest w.in-Some.t c.match-child.rest w.in-Some.ensures (ap Some w.rest-is ∙ w.in_ok-rest.ensures) ∙ l.invariant
-      | room_edges-in-default w ↦
-          room_none f cs c.args.s l.code c.loop-code-test.true l.rest c.match-child.rest w.in-default.ensures w.rest-is ∙ l.invariant
+      | room_edges-in_default w ↦
+          room_none f cs c.args.s l.code c.loop-code-test.true l.rest c.match-child.rest w.in_default.ensures w.rest-is ∙ l.invariant
     ]

@@ -4,7 +4,7 @@ use Rattle.subtrie.specs.Below.{numbers_below}
 use Rattle.subtrie.proofs.Steps.{below_leaf, below_none, below_edges, edges_end}
 use Rattle.subtrie.proofs.Writes.{wrote_none, wrote_one, wrote_as, wrote_all, wrote_some, wrote_past, edge_room}
 use Rattle.subtrie.proofs.writing.+write_below_write_edges.Goals as goal
-use Rattle.subtrie.proofs.writing.+write_below_write_edges.Goals.{write_edges-in-Some, write_edges-in-default}
+use Rattle.subtrie.proofs.writing.+write_below_write_edges.Goals.{write_edges-in-Some, write_edges-in_default}
 
 pub write_below-bounds-out-at : goal.write_below-bounds-out-at
 write_below-bounds-out-at t c =
@@ -29,8 +29,8 @@ write_below-returns-in-None-2 t c =
     let w = wrote_as c.args.out.now c.args.at _ _ _ _ e (record { ends = c.write_edges.ensures.end; holds = c.write_edges.ensures.after }) in
     record { end = w.ends; after = w.holds }
 
-pub write_below_write_edges-requires : goal.write_below_write_edges-requires
-write_below_write_edges-requires t c =
+pub write_below-write_edges-requires : goal.write_below-write_edges-requires
+write_below-write_edges-requires t c =
     let e = ap length (below_edges c.args.cells.now c.args.s c.args.left c.if-left-eq0.false c.in-None-2.ensures) in
     (search rules, (search rules, (search rules, omega (arith, e, c.requires.room))))
 
@@ -51,8 +51,8 @@ write_edges-loop-code-preserved t c =
           (omega (arith, l.auto.out, c.requires.room))
           (record { ends = w.next-is ∙ w.write_below-next.ensures.end; holds = w.out-is ∙ w.write_below-next.ensures.after })
           l.invariant
-      | write_edges-in-default w ↦
-          wrote_past f cs c.args.s l.code c.loop-code-test.true l.out l.next _ _ c.match-child.next c.match-child.out w.in-default.ensures w.next-is w.out-is l.invariant
+      | write_edges-in_default w ↦
+          wrote_past f cs c.args.s l.code c.loop-code-test.true l.out l.next _ _ c.match-child.next c.match-child.out w.in_default.ensures w.next-is w.out-is l.invariant
     ]
 
 pub write_edges-write_below-next-requires : goal.write_edges-write_below-next-requires

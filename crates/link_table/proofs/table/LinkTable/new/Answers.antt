@@ -1,4 +1,4 @@
-use Rattle.std.proofs.Common.{◌≡◌, ◌≤◌, min, length, Some, None, arith}
+use Rattle.std.proofs.Common.{Some, None, arith}
 use Rattle.std.proofs.lemmas.Bool.{cond-false}
 use Rattle.double_array.specs.Spellings.{is_known, path_of}
 use Rattle.double_array.specs.Views.{cells_of, index_of}

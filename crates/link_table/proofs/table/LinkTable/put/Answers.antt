@@ -1,4 +1,4 @@
-use Rattle.std.proofs.Common.{◌≡◌, ℕ, ◌+◌, ◌<◌, ◌≤◌, false, List, length, get_or, is_some, Some, Ok, Err, sym, refl, ap, ◌∙◌, subst, arith}
+use Rattle.std.proofs.Common.{◌≡◌, ℕ, ◌+◌, ◌<◌, ◌≤◌, false, List, length, get_or, is_some, Ok, Err, sym, refl, ap, ◌∙◌, subst, arith}
 use Rattle.std.proofs.lemmas.Bool.{ne_eqb}
 use Rattle.cells.specs.Walking.{number_at}
 use Rattle.double_array.specs.Entries.{Added, Entry}
@@ -7,15 +7,15 @@ use Rattle.link_table.specs.Tables.{limit, found, numbers, all_held}
 use Rattle.link_table.proofs.Tables.{same_table, same_fields, none_of, count_few, put_full, put_accepted, put_refused, put_fields, put_done}
 use Rattle.link_table.proofs.table.LinkTable.put.Goals as goal
 
-pub returns-in-default : goal.returns-in-default
-returns-in-default c =
+pub returns-in_default : goal.returns-in_default
+returns-in_default c =
     let s = c.args.self.now in
     let t = c.args.triple in
     let cs = cells_of s.array in
     let is = index_of s.array in
     let e = c.write_code-path.ensures.path in
     let none = none_of (found s t) (ap is_some (ap (number_at cs) (sym e) ∙ sym c.number_at.ensures.number) ∙ sym c.is_some.ensures ∙ c.if-is_some.false) in
-    (put_full s t none (subst (λ (l : List ℕ). (k : ℕ) → k < length l → 0 ≤ k → 0 < get_or l k 0) c.index.ensures c.in-default.ensures), refl)
+    (put_full s t none (subst (λ (l : List ℕ). (k : ℕ) → k < length l → 0 ≤ k → 0 < get_or l k 0) c.index.ensures c.in_default.ensures), refl)
 
 pub invariant_of-self : goal.invariant_of-self
 invariant_of-self c = same_fields c.args.self.now c.enter.new.self c.in-Err.ensures.same

@@ -1,8 +1,7 @@
-use Rattle.std.proofs.Common.{◌≡◌, ℕ, ◌≤◌, List, length, Some, None, sym, refl, ap, ◌∙◌, subst, arith}
+use Rattle.std.proofs.Common.{ℕ, List, Some, sym, refl, ap, ◌∙◌, subst, arith}
 use Rattle.cells.specs.Walking.{number_at}
 use Rattle.double_array.specs.Outcomes.{Taken, Removed}
 use Rattle.double_array.specs.Views.{cells_of, index_of}
-use Rattle.link_table.specs.Codes.{path_of_triple}
 use Rattle.link_table.proofs.Tables.{same_table, take_held, take_fields, take_done}
 use Rattle.link_table.proofs.table.LinkTable.take.Goals as goal
 
