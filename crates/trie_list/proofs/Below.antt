@@ -1,11 +1,11 @@
 -- The numbers below a cell are those of the words that begin so.
-use Rattle.std.proofs.Common.{◌≡◌, ℕ, zero, suc, ◌+◌, ◌-◌, ◌<◌, ◌≤◌, Bool, true, false, cond, ◌⊎◌, List, [], ◌∷◌, ◌++◌, length, get_or, take, IfOk, Some, None, Ok, Err, Option, Result, sym, refl, ap, ◌∙◌, subst, inl, inr, ⊎_elim, arith}
+use Rattle.std.proofs.Common.{◌≡◌, ℕ, suc, ◌+◌, ◌-◌, ◌<◌, ◌≤◌, true, false, cond, List, [], ◌∷◌, ◌++◌, length, get_or, take, IfOk, Some, None, Ok, Err, Option, Result, sym, refl, ap, ◌∙◌, inl, inr, arith}
 use Rattle.std.specs.Option.{ok_or}
 use Rattle.std.proofs.lemmas.List.{take-take, take_at}
 use Rattle.std.proofs.lemmas.Bool.{cond-true, cond-false, le-leb, lt-leb}
 use Rattle.refusal.specs.declared.ListFault.{ListFault}
 use Rattle.refusal.specs.declared.ListFault.TheVariants.{OutputTooShort}
-use Rattle.lexicon.specs.Rolls.{number_of, numbered, word_of}
+use Rattle.lexicon.specs.Rolls.{numbered, word_of}
 use Rattle.lexicon.proofs.Numbers.{numbered_bounds, number_word}
 use Rattle.cells.specs.Trees.{In}
 use Rattle.cells.specs.Walking.{number_at}
@@ -107,7 +107,7 @@ module _ (s : TrieList) (b : List ℕ) (m : Members (cells_of s.array) (codes_of
 pub record Told (ns out : List ℕ) (o : Option ℕ) (after : List ℕ) : Type 0 where
   pub answer : ok_or o OutputTooShort ≡ cond (fits out 0 ns) (Ok (length ns)) (Err OutputTooShort)
   pub output : after ≡ cond (fits out 0 ns) (written out 0 ns) out
-  pub within : IfOk {Y = ListFault} (ok_or o OutputTooShort) (λ n. n ≤ length out)
+  pub within : IfOk {E = ListFault} (ok_or o OutputTooShort) (λ n. n ≤ length out)
 
 pub told : (ns out : List ℕ) (o : Option ℕ) (after : List ℕ) → Filled ns out o after → Told ns out o after
 told ns out None after (short, same) =

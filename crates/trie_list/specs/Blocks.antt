@@ -1,12 +1,12 @@
 -- No path of a new word is blocked: where all held paths end with the end sign and nowhere else have it, none runs through
 -- another's leaf, and none ends above one.
-use Rattle.std.specs.Prelude.{◌≡◌, ℕ, zero, suc, ◌+◌, ◌<◌, ◌≤◌, Bool, true, false, cond, not, ◌&&◌, ◌⊎◌, List, [], ◌∷◌, ◌++◌, length, ℤ, pos, negsuc, Some, None, Option, ◌≢◌, refl}
-use Rattle.std.proofs.Common.{sym, ap, subst, ◌∙◌, inl, inr, ⊎_elim, append-nil, append_assoc, arith}
+use Rattle.std.specs.Prelude.{◌≡◌, ℕ, suc, ◌<◌, true, false, not, ◌&&◌, List, [], ◌∷◌, ◌++◌, length, Some, None, Option, ◌≢◌, refl}
+use Rattle.std.proofs.Common.{sym, ap, subst, ◌∙◌, ⊎_elim, append-nil, arith}
 use Rattle.std.proofs.lemmas.Bool.{cases_Bool, and_parts, and_from, both_ways, not_from_false}
 use Rattle.lexicon.specs.Rolls.{label_sized}
 use Rattle.cells.specs.declared.Cell.{Cell}
 use Rattle.cells.specs.Cells.{at, is_leaf, child, some_code, all_codes}
-use Rattle.cells.specs.Trees.{Edge, Reach, Held}
+use Rattle.cells.specs.Trees.{Reach, Held}
 use Rattle.cells.specs.Walking.{number_at, turned}
 use Rattle.cells.proofs.Basics.{no_some}
 use Rattle.cells.proofs.Climbs.{turned_turned, codes_from, held_number}
@@ -15,7 +15,7 @@ use Rattle.cells.proofs.Paths.{reach_unique}
 use Rattle.cells.proofs.Sounds.{leaf_is, tidy_of}
 use Rattle.cells.proofs.Walks.{Codes, child_edge}
 use Rattle.double_array.specs.Entries.{Followed, or_stop, follow, is_new}
-use Rattle.trie_list.specs.Paths.{ends_once, word_path, labels_of}
+use Rattle.trie_list.specs.Paths.{ends_once, labels_of}
 use Rattle.trie_list.specs.Rolls.{path_at}
 use Rattle.trie_list.specs.PathsLemmas.{ends_alone}
 use Rattle.trie_list.specs.RollsLemmas.{Listed, number_path}

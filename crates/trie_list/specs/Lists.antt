@@ -1,5 +1,5 @@
 -- What the fields of a trie list say of its roll.
-use Rattle.std.specs.Prelude.{◌≡◌, ℕ, zero, suc, ◌+◌, ◌-◌, ◌<◌, ◌≤◌, min, Bool, true, false, cond, ◌&&◌, List, [], ◌∷◌, ◌++◌, length, get_or, is_some, Some, None, Ok, Err, Option, Result, ◌==◌, nat_le, nat_lt, slice_index, slice_index_or, refl}
+use Rattle.std.specs.Prelude.{◌≡◌, ℕ, zero, suc, ◌+◌, ◌-◌, ◌<◌, ◌≤◌, min, true, false, cond, ◌&&◌, List, [], length, get_or, is_some, Some, None, Ok, Err, Option, Result, ◌==◌, nat_le, nat_lt, slice_index, slice_index_or, refl}
 use Rattle.std.proofs.Common.{sym, ap, subst, ◌∙◌, ⊎_elim, arith}
 use mathlib.Core.HLevel.{is_prop→PathP}
 use Rattle.std.proofs.Math.Bridge.{le_prop}
@@ -15,7 +15,6 @@ use Rattle.lexicon.specs.Answers.{enter_answer, EnterLeaves}
 use Rattle.lexicon.specs.Answers.{is_new as is_new_word}
 use Rattle.lexicon.proofs.Entries.{new_answer, new_is, leaves_new, full_answer, full_is, leaves_same}
 use Rattle.lexicon.proofs.Numbers.{label_bounds, numbered_bounds}
-use Rattle.cells.specs.declared.Cell.{Cell}
 use Rattle.cells.specs.Cells.{all_codes}
 use Rattle.cells.specs.Placing.{Arrays, enter}
 use Rattle.cells.specs.Walking.{number_at}

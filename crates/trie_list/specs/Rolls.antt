@@ -1,5 +1,5 @@
 -- The roll of a trie list, read from its cells and its index.
-use Rattle.std.specs.Prelude.{◌≡◌, ℕ, ◌<◌, ◌≤◌, true, List, map, length, slice_index}
+use Rattle.std.specs.Prelude.{◌≡◌, ℕ, ◌<◌, ◌≤◌, true, List, map, slice_index}
 use Rattle.std.specs.List.{range_with_len}
 use Rattle.cells.specs.declared.Cell.{Cell}
 use Rattle.cells.specs.Cells.{at, entry, is_leaf}

@@ -1,4 +1,4 @@
-use Rattle.std.proofs.Common.{◌≡◌, ◌+◌, ◌-◌, ◌<◌, ◌≤◌, true, ◌≢◌, length, get_or, ◌∙◌, arith, get_or-set_other, get_or-set_same, rules, below_more}
+use Rattle.std.proofs.Common.{◌-◌, ◌<◌, ◌≢◌, length, arith, get_or-set_other, get_or-set_same, rules, below_more}
 use Rattle.std.proofs.lemmas.Bool.{and_parts}
 use Rattle.lexicon.specs.Rolls.{label_sized}
 use Rattle.trie_list.specs.Paths.{ends_once, labels_of}

@@ -1,4 +1,4 @@
-use Rattle.std.proofs.Common.{◌≡◌, ℕ, ◌+◌, ◌<◌, min, List, length, Some, sym, refl, ap, ◌∙◌, subst, arith}
+use Rattle.std.proofs.Common.{◌≡◌, ℕ, ◌+◌, ◌<◌, min, List, length, Some, refl, ap, ◌∙◌, subst, arith}
 use Rattle.std.proofs.lemmas.Result.{err_from_is_err_and}
 use Rattle.refusal.specs.Reports.{path_refusal}
 use Rattle.cells.specs.Placing.{Arrays}
@@ -34,7 +34,7 @@ invariant_of-self-2 c =
     let left : s.count < min (length (index_of s.array)) 65535 = omega (arith, c.min.ensures, long, c.if-self-min.false) in
     let did = entered_as s w c.requires.sized c.requires.absent (λ k. omega (arith, c.type_inv.word k)) left _ xs slice c.in_ok-enter.ensures.cells.1 in
     let l = grown_listed (cells_of s.array) (index_of s.array) s.count (listed s) w xs c.requires.sized (omega arith) (omega arith) did in
-    (l.within, (l.few, (l.numbered, (l.unnumbered, (l.counted, (l.worded, tt))))))
+    record { within = l.within; few = l.few; numbered = l.numbered; unnumbered = l.unnumbered; counted = l.counted; worded = l.worded }
 
 pub returns : goal.returns
 returns c =

@@ -1,10 +1,8 @@
-use Rattle.std.proofs.Common.{◌≡◌, ℕ, ◌-◌, true, List, ◌++◌, length, take, drop, Some, None, sym, refl, ap, ◌∙◌, subst, arith}
+use Rattle.std.proofs.Common.{◌≡◌, ℕ, ◌-◌, List, ◌++◌, length, take, drop, sym, ap, ◌∙◌, arith}
 use Rattle.std.proofs.lemmas.List.{take_at}
 use Rattle.cells.specs.Cells.{all_codes}
 use Rattle.cells.proofs.Basics.{no_some}
-use Rattle.double_array.specs.Spellings.{unwritten}
 use Rattle.double_array.specs.Views.{cells_of, index_of}
-use Rattle.lexicon.specs.Rolls.{label_sized}
 use Rattle.lexicon.proofs.Numbers.{label_bounds}
 use Rattle.trie_list.specs.Paths.{labels_of, word_path}
 use Rattle.trie_list.specs.Rolls.{path_at}
@@ -32,10 +30,10 @@ returns-in-Ok c =
     let p = path_at (cells_of s.array) (index_of s.array) (c.args.number - 1) in
     let m = c.in-Ok.ensures.path in
     let same = written_path c.in-Ok.size p _ c.path_of.new.out m.1 m.2 in
-    let size = label_bounds (labels_of p) (word_path_parts p (path_words s c.args.number c.requires)).1 in (
-      c.write_labels.ensures.labels ∙ ap labels_of same ∙ word_labels s c.args.number c.requires,
-      omega (arith, c.write_labels.ensures.size, ap (λ (z : List ℕ). length (labels_of z)) same, size.1),
-    )
+    let size = label_bounds (labels_of p) (word_path_parts p (path_words s c.args.number c.requires)).1 in record {
+      labels_after = c.write_labels.ensures.labels ∙ ap labels_of same ∙ word_labels s c.args.number c.requires;
+      upper_bound = omega (arith, c.write_labels.ensures.size, ap (λ (z : List ℕ). length (labels_of z)) same, size.1);
+    }
 
 pub returns-in-Err : goal.returns-in-Err
 returns-in-Err c = absurd (no_some c.in-Err.field-0 (sym (path_known c.args.self.now c.args.number c.requires) ∙ c.in-Err.ensures.path.0))
