@@ -1,5 +1,5 @@
 -- What an entry answers and leaves, case by case.
-use Rattle.std.proofs.Common.{◌≡◌, ℕ, ◌+◌, Bool, true, false, cond, not, ◌&&◌, List, [], ◌∷◌, ◌++◌, length, is_some, Some, None, Ok, Err, Option, sym, refl, ap, ◌∙◌, subst}
+use Rattle.std.proofs.Common.{◌≡◌, ℕ, ◌+◌, Bool, true, false, not, ◌&&◌, List, [], ◌∷◌, ◌++◌, length, is_some, None, Ok, Err, Option, sym, ap, ◌∙◌, subst}
 use Rattle.std.proofs.lemmas.Bool.{cond-true, and_from, and_right}
 use Rattle.refusal.specs.declared.ListFault.TheVariants.{WordLength, NoRoom}
 use Rattle.lexicon.specs.Rolls.{label_sized, number_of}

@@ -49,8 +49,8 @@ pub trait GrowingList: ReadableList {
     // word becomes the last. A spelling of no label or of more than 128 is refused, then a new word
     // for which there is no room; unless a new word is entered, the list stays as it was.
     fn enter(&mut self, word: &[u8]) -> Result<u16, ListFault>
-        ensures answer { sound self.old → result ≡ enter_answer (roll self.old) (room self.old word.now) word.now }
-        ensures after { sound self.old → EnterLeaves roll sound enters self.old word.now self.new (is_new (roll self.old) (room self.old word.now) word.now) };
+        ensures answer { Self.sound self.old → result ≡ enter_answer (Self.roll self.old) (room self.old word.now) word.now }
+        ensures after { Self.sound self.old → EnterLeaves Self.roll Self.sound enters self.old word.now self.new (is_new (Self.roll self.old) (room self.old word.now) word.now) };
 }
 
 // The spelling has 1 to 128 labels.

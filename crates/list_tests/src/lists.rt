@@ -48,8 +48,8 @@ fn a_full_list_keeps_what_it_has(rt: HostRuntime) -> Result<(), Fail> {
     assert_eq!(rt; words.enter(b"z"), Err(ListFault::NoRoom));
     assert_eq!(rt; words.enter(b"abc"), Ok(2));
     assert_eq!(rt; words.count(), 3);
-    assert!(rt; words.bytes() == b"ababcyz");
-    assert!(rt; words.lengths() == [2u8, 3, 2]);
+    assert!(rt; words.bytes() == b"ababcyz".as_slice());
+    assert!(rt; words.lengths() == [2u8, 3, 2].as_slice());
     Ok(())
 }
 
@@ -72,7 +72,7 @@ fn numbers_and_outputs_are_tested(rt: HostRuntime) -> Result<(), Fail> {
     assert_eq!(rt; words.spell(2, &mut out[0..3]), Ok(3));
     assert!(rt; out == [98, 111, 119, 110, 1, 1]);
     assert!(rt; words.bytes().starts_with(b"rainbow\xc8"));
-    assert!(rt; words.lengths() == [4u8, 3, 77, 77, 77]);
+    assert!(rt; words.lengths() == [4u8, 3, 77, 77, 77].as_slice());
     Ok(())
 }
 

@@ -1,6 +1,6 @@
 -- What the fields of a plain list say of its roll.
 use Rattle.std.specs.Prelude.{◌≡◌, ℕ, ◌+◌, ◌-◌, ◌<◌, ◌≤◌, min, true, false, cond, not, ◌&&◌, List, [], ◌∷◌, ◌++◌, length, take, drop, is_some, Some, None, vec_items, vec_len, sum, Option, nat_le, nat_lt, slice_index, slice_index_or, slice_set, refl}
-use Rattle.std.proofs.Common.{sym, ap, subst, ◌∙◌, arith}
+use Rattle.std.proofs.Common.{ap, ◌∙◌, arith}
 use Rattle.std.specs.Vec.{with_items}
 use Rattle.std.proofs.lemmas.List.{length-take-le, get_or-take, take_more_set, with_items_is}
 use Rattle.std.proofs.lemmas.List.Sums.{sum_by_push}
@@ -10,7 +10,7 @@ use Rattle.lexicon.specs.Rolls.{Lawful, label_sized, number_of}
 use Rattle.lexicon.specs.Answers.{is_new}
 use Rattle.lexicon.proofs.Numbers.{label_bounds}
 use Rattle.plain_list.specs.Cuts.{cut}
-use Rattle.plain_list.specs.Plain.{roll_of, room_of, Appended}
+use Rattle.plain_list.specs.Plain.{roll_of, room_of}
 use Rattle.plain_list.specs.declared.list.PlainList.{PlainList}
 use Rattle.plain_list.specs.CutsLemmas.{length_cut, cut_at, cut_write, next_inside}
 

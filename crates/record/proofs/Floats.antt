@@ -1,9 +1,8 @@
 -- The bounds of scores as the code writes them, and NaN.
-use Rattle.std.proofs.Common.{◌≡◌, ℕ, Bool, true, false, ◌&&◌, sym, refl, ap, ◌∙◌}
+use Rattle.std.proofs.Common.{◌≡◌, false, ◌&&◌, refl}
 use lib.Ieee.{Float, nan, inf, fin, le, lt, eq, binary64, of_bits, of_fields, odd}
 use Rattle.std.proofs.lemmas.Bool.{and_left, and_right}
-use Rattle.record.specs.Soundness.{zero_float, one_float, million_float, sound_score, NanUnsound}
-use Rattle.record.specs.declared.Score.TheVariants.{Band}
+use Rattle.record.specs.Soundness.{zero_float, one_float, million_float, NanUnsound}
 
 pub zero_is : of_bits binary64 0 ≡ zero_float
 unfolding of_bits of_fields odd

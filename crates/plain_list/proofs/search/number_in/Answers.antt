@@ -1,4 +1,4 @@
-use Rattle.std.proofs.Common.{◌≡◌, ℕ, ◌+◌, ◌-◌, ◌<◌, ◌≤◌, true, false, List, length, get_or, take, drop, sym, ap, ◌∙◌, arith, rules}
+use Rattle.std.proofs.Common.{◌≡◌, ℕ, ◌+◌, ◌-◌, ◌≤◌, List, length, get_or, take, drop, sym, ap, ◌∙◌, arith, rules}
 use Rattle.std.specs.Str.{bytes_eq}
 use Rattle.std.proofs.lemmas.List.{at_drop_all}
 use Rattle.std.proofs.lemmas.List.Sums.{sum_by_more}
@@ -8,11 +8,11 @@ use Rattle.plain_list.specs.Cuts.{cut}
 use Rattle.plain_list.specs.CutsLemmas.{next_inside, search_step}
 use Rattle.plain_list.proofs.search.number_in.Goals as goal
 
-pub overflow-add-end : goal.overflow-add-end
-overflow-add-end c = omega (arith, next_inside c.args.lengths.now c.loop-i.i c.loop-i-test.true)
+pub overflow_add-end : goal.overflow_add-end
+overflow_add-end c = omega (arith, next_inside c.args.lengths.now c.loop-i.i c.loop-i-test.true)
 
-pub slice-bounds-same-end : goal.slice-bounds-same-end
-slice-bounds-same-end c =
+pub slice_bounds-same-end : goal.slice_bounds-same-end
+slice_bounds-same-end c =
     let inside : c.loop-i.at + get_or c.args.lengths.now c.loop-i.i 0 ≤ length c.args.bytes.now = omega (arith, next_inside c.args.lengths.now c.loop-i.i c.loop-i-test.true) in
     search rules
 

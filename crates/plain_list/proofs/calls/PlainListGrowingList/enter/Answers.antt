@@ -1,4 +1,4 @@
-use Rattle.std.proofs.Common.{◌≡◌, ℕ, ◌+◌, true, length, None, Ok, sym, ap, ◌∙◌, arith}
+use Rattle.std.proofs.Common.{◌≡◌, ◌+◌, true, length, None, Ok, sym, ap, ◌∙◌, arith}
 use Rattle.lexicon.specs.Rolls.{label_sized, number_of}
 use Rattle.lexicon.proofs.Entries.{new_answer, new_is, leaves_new}
 use Rattle.plain_list.specs.Plain.{roll_of, room_of, Appended}
@@ -10,7 +10,7 @@ returns c =
     let s = c.args.self.now in
     let w = c.args.word.now in
     let sized : label_sized w ≡ true = sym c.if-not-has_label_size.ensures in
-    let absent : number_of (roll_of s) w ≡ None = sym c.in-default.ensures in
+    let absent : number_of (roll_of s) w ≡ None = sym c.in_default.ensures in
     let free : room_of s w ≡ true = sym c.if-not-has_room.ensures in
     let count : c.append.new.self.count ≡ length (roll_of s) + 1 = omega (arith, c.append.ensures.arrays.count_after, length_roll s) in
     record {

@@ -1,5 +1,5 @@
-use Rattle.std.proofs.Common.{◌≡◌, ℕ, true, List, sym, ap, ◌∙◌, arith}
-use Rattle.lexicon.specs.Rolls.{numbered, word_of}
+use Rattle.std.proofs.Common.{◌≡◌, true, sym, arith}
+use Rattle.lexicon.specs.Rolls.{numbered}
 use Rattle.lexicon.proofs.Numbers.{numbered_bounds}
 use Rattle.lexicon.proofs.Spells.{put_answer, put_output, put_within}
 use Rattle.plain_list.specs.Plain.{roll_of}

@@ -6,33 +6,24 @@ use Rattle.plain_list.specs.Plain.{roll_of}
 use Rattle.plain_list.specs.Lists.{length_roll, roll_lawful, New, new_facts, more_bytes, more_sum, more_roll}
 use Rattle.plain_list.proofs.list.PlainList.append.Goals as goal
 
-pub invariant-of-self : goal.invariant-of-self
-invariant-of-self c =
+pub invariant_of-self : goal.invariant_of-self
+invariant_of-self c =
     let s = c.args.self.now in
     let w = c.args.word.now in
     let new : New s w = new_facts s w c.requires in
     let long : length c.put.new.out ≡ s.bytes.len = omega (arith, c.put.auto.out, c.as_mut_slice.ensures.len) in
     let bytes = more_bytes s w new c.put.new.out c.as_mut_slice.result.now long c.as_mut_slice.ensures.value c.put.ensures.after in
     let roll = ap (cut (take (s.count + 1) (set (vec_items s.lengths) s.count (length w)))) bytes ∙ more_roll s w new in
-    let lawful = lawful_push (roll_of s) w (roll_lawful s) (omega (arith, new.few, length_roll s)) new.sized new.absent in (
-      omega (arith, new.place),
-      (
-        more_sum s w new,
-        (
-          omega (arith, new.fits),
-          (
-            new.short,
-            (
-              omega (arith, new.few),
-              (
-                subst Sized (sym roll) lawful.sized,
-                (subst Distinct (sym roll) lawful.apart, tt),
-              ),
-            ),
-          ),
-        ),
-      ),
-    )
+    let lawful = lawful_push (roll_of s) w (roll_lawful s) (omega (arith, new.few, length_roll s)) new.sized new.absent in
+    record {
+      within = omega (arith, new.place);
+      ended = more_sum s w new;
+      inside = omega (arith, new.fits);
+      short = new.short;
+      few = omega (arith, new.few);
+      sized = subst Sized (sym roll) lawful.sized;
+      apart = subst Distinct (sym roll) lawful.apart;
+    }
 
 pub returns : goal.returns
 returns c =

@@ -1,17 +1,17 @@
-use Rattle.std.proofs.Common.{◌≡◌, ℕ, ◌+◌, ◌-◌, ◌≤◌, length, get_or, take, drop, vec_items, sum, sym, ap, ◌∙◌, arith, rules}
+use Rattle.std.proofs.Common.{◌≡◌, ◌+◌, ◌-◌, ◌≤◌, length, get_or, take, vec_items, sum, arith, rules}
 use Rattle.plain_list.specs.Lists.{counted, word_inside, word_reads}
 use Rattle.plain_list.proofs.list.PlainList.word_at.Goals as goal
 
-pub overflow-add-end : goal.overflow-add-end
-overflow-add-end c =
+pub overflow_add-end : goal.overflow_add-end
+overflow_add-end c =
     let s = c.args.self.now in
     let all : s.count - 0 ≡ s.count = omega arith in
     let start : c.start_of-start.result ≡ sum (take c.args.index (counted s)) = cc c.start_of-start.ensures in
     let read : get_or c.as_slice-lengths.result.now c.args.index 0 ≡ get_or (vec_items s.lengths) c.args.index 0 = cc in
     omega (arith, word_inside s c.args.index c.requires)
 
-pub slice-bounds-result-end : goal.slice-bounds-result-end
-slice-bounds-result-end c =
+pub slice_bounds-result-end : goal.slice_bounds-result-end
+slice_bounds-result-end c =
     let s = c.args.self.now in
     let all : s.count - 0 ≡ s.count = omega arith in
     let start : c.start_of-start.result ≡ sum (take c.args.index (counted s)) = cc c.start_of-start.ensures in
