@@ -62,7 +62,7 @@ fn a_family_moves(rt: HostRuntime) -> Result<(), Fail> {
         (103, (1, 100)),
     ];
     holds(&rt, &words, &wanted);
-    assert!(rt; words.index() == [4u32, 3, 2]);
+    assert!(rt; words.index() == [4u32, 3, 2].as_slice());
     assert_eq!(rt; words.find(b"a"), Ok(Some(1)));
     assert_eq!(rt; words.find(b"abc"), Ok(None));
     Ok(())
@@ -90,7 +90,7 @@ fn a_word_without_a_place_leaves_the_cells(rt: HostRuntime) -> Result<(), Fail> 
         (102, (0, 0)),
     ];
     holds(&rt, &words, &wanted);
-    assert!(rt; words.index() == [2u32, 3, 0]);
+    assert!(rt; words.index() == [2u32, 3, 0].as_slice());
     Ok(())
 }
 
