@@ -10,7 +10,7 @@ use Rattle.link_table.specs.Tables.{found, coded}
 use Rattle.link_table.specs.declared.table.LinkTable.{LinkTable}
 use Rattle.link_table.specs.declared.triple.Triple.{Triple}
 use Rattle.link_table.proofs.Tables.{lawful}
-use Rattle.listing.specs.Rows.{rows_of, Asks, Members, Rising}
+use Rattle.listing.specs.Rows.{rows_of, Asks, Rising}
 use Rattle.listing.specs.declared.row.LinkRow.{LinkRow}
 use Rattle.listing.proofs.Members.{members}
 use Rattle.listing.proofs.Orders.{rising}

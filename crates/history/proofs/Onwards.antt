@@ -1,5 +1,5 @@
 -- A call that keeps its rule leads every history on, and the law with it.
-use Rattle.std.proofs.Common.{ℕ, Bool, true, false, List, ◌∷◌, Result}
+use Rattle.std.proofs.Common.{ℕ, Bool, true, false, List, Result}
 use Rattle.refusal.specs.declared.Refusal.{Refusal}
 use Rattle.lexicon.specs.Answers.{EnterLeaves}
 use Rattle.listing.specs.declared.row.LinkRow.{LinkRow}
@@ -7,7 +7,7 @@ use Rattle.history.specs.declared.replies.Reply.{Reply}
 use Rattle.history.specs.declared.replies.Link.{Link}
 use Rattle.history.specs.Kits.{Kit, State}
 use Rattle.history.specs.Calls.{Call, add, tie, delete, find, read, change, list, figures, Adds, Steps}
-use Rattle.history.specs.Runs.{anything, Reached, after}
+use Rattle.history.specs.Runs.{anything, after}
 use Rattle.history.specs.Laws.{Onward}
 use Rattle.history.proofs.Runs.{sound_of, law_of}
 

@@ -1,5 +1,6 @@
 -- Options, tests and the first refusal that applies.
-use Rattle.std.proofs.Common.{◌≡◌, ℕ, ◌≤◌, Bool, true, false, cond, List, [], ◌∷◌, is_some, is_ok, Some, None, All, Option, Result, unwrap_or, sym, refl, ap, ◌∙◌, arith}
+use Rattle.std.proofs.Common.{◌≡◌, ℕ, ◌≤◌, Bool, true, false, cond, List, [], ◌∷◌, is_some, is_ok, Some, None, Option, Result, unwrap_or, sym, refl, ap, ◌∙◌, arith}
+use Rattle.std.specs.List.{AllByRecursion}
 use Rattle.std.proofs.lemmas.Bool.{both_ways}
 use Rattle.refusal.specs.declared.Refusal.{Refusal}
 use Rattle.cells.proofs.Basics.{no_some}
@@ -29,12 +30,12 @@ first_step true f o e = absurd (no_some f (sym e))
 first_step false f o e = (refl, e)
 
 -- where no refusal applies, no test is true
-pub none_applies : (cs : List (Bool × Refusal)) → first cs ≡ None → All (λ c. c.0 ≡ false) cs
+pub none_applies : (cs : List (Bool × Refusal)) → first cs ≡ None → AllByRecursion (λ c. c.0 ≡ false) cs
 none_applies [] e = tt
 none_applies (c ∷ cs) e = let s = first_step c.0 c.1 (first cs) e in (s.0, none_applies cs s.1)
 
 -- and back
-pub applies_none : (cs : List (Bool × Refusal)) → All (λ c. c.0 ≡ false) cs → first cs ≡ None
+pub applies_none : (cs : List (Bool × Refusal)) → AllByRecursion (λ c. c.0 ≡ false) cs → first cs ≡ None
 applies_none [] a = refl
 applies_none (c ∷ cs) a = ap (λ (b : Bool). cond b (Some c.1) (first cs)) a.0 ∙ applies_none cs a.1
 
