@@ -1,5 +1,5 @@
 -- From what the list and the table say to what add says.
-use Rattle.std.proofs.Common.{◌≡◌, ℕ, ◌+◌, Bool, true, false, cond, not, ◌&&◌, List, [], ◌∷◌, ◌++◌, length, is_some, Some, None, Ok, Err, Option, Result, sym, refl, ap, ◌∙◌, subst, arith}
+use Rattle.std.proofs.Common.{◌≡◌, ℕ, ◌+◌, Bool, true, false, cond, not, ◌&&◌, List, ◌∷◌, ◌++◌, length, Some, None, Ok, Err, Option, Result, sym, refl, ap, ◌∙◌, subst, arith}
 use Rattle.refusal.specs.declared.Side.{Side}
 use Rattle.refusal.specs.declared.Side.TheVariants.{First, Second}
 use Rattle.refusal.specs.declared.Refusal.{Refusal}
@@ -9,7 +9,6 @@ use Rattle.lexicon.specs.Answers.{EnterLeaves}
 use Rattle.lexicon.proofs.Numbers.{number_from_kept, number_from_last}
 use Rattle.link_table.specs.Tables.{all_held}
 use Rattle.link_table.specs.declared.table.LinkTable.{LinkTable}
-use Rattle.link_table.specs.declared.triple.Triple.{Triple}
 use Rattle.history.specs.declared.replies.Link.{Link}
 use Rattle.history.specs.Kits.{Kit, state_of, labels_of, number_in}
 use Rattle.history.specs.Refusals.{first, none, put_refusals, link_refusals}

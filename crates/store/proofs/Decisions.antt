@@ -1,5 +1,5 @@
 -- The first refusal of lists one after the other.
-use Rattle.std.proofs.Common.{◌≡◌, ℕ, Bool, true, false, cond, List, [], ◌∷◌, ◌++◌, Some, None, Ok, Err, Option, Result, sym, refl, ap, ◌∙◌, subst, arith}
+use Rattle.std.proofs.Common.{◌≡◌, ℕ, Bool, true, false, cond, List, [], ◌∷◌, ◌++◌, Some, None, Err, Option, Result, sym, refl, subst, arith}
 use Rattle.refusal.specs.declared.Refusal.{Refusal}
 use Rattle.history.specs.Refusals.{first}
 use Rattle.history.specs.Calls.{Decided}

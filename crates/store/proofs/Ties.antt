@@ -1,5 +1,5 @@
 -- From what the table says of a triple to what tie says of its words.
-use Rattle.std.proofs.Common.{◌≡◌, ℕ, ◌-◌, Bool, true, false, cond, not, List, [], ◌∷◌, ◌++◌, set, is_some, Some, None, Ok, Err, Option, Result, unwrap_or, sym, refl, ap, ◌∙◌, subst}
+use Rattle.std.proofs.Common.{◌≡◌, ℕ, Bool, true, false, cond, not, List, [], ◌∷◌, ◌++◌, is_some, Some, None, Ok, Err, Option, Result, unwrap_or, sym, refl, ap, ◌∙◌, subst}
 use Rattle.std.specs.Option.{option_map}
 use Rattle.refusal.specs.declared.Side.TheVariants.{First, Second}
 use Rattle.refusal.specs.declared.Refusal.{Refusal}
@@ -12,7 +12,7 @@ use Rattle.link_table.specs.Tables.{found, all_held, has_place, put_refusal, Put
 use Rattle.link_table.specs.declared.table.LinkTable.{LinkTable}
 use Rattle.link_table.specs.declared.triple.Triple.{Triple}
 use Rattle.history.specs.declared.replies.Link.{Link}
-use Rattle.history.specs.Kits.{Kit, State, state_of, number_in, triple_in}
+use Rattle.history.specs.Kits.{Kit, state_of, number_in, triple_in}
 use Rattle.history.specs.Refusals.{first, none, word_refusals, put_refusals, link_refusals}
 use Rattle.history.specs.Calls.{Decided, LinkMade, answered, link_in, held_in, place_in, refusal_of_tie, Ties, refusal_of_delete, Deletes, link_by, find_of}
 use Rattle.store.specs.declared.labels.WordPair.{WordPair}

@@ -1,5 +1,5 @@
 -- Linking a triple of word numbers, with its record.
-use Rattle.std.specs.Prelude.{◌≡◌, ℕ, ◌-◌, Bool, true, List, [], is_some, Some, None, Ok, Err, Option, Result, slice_set}
+use Rattle.std.specs.Prelude.{◌≡◌, ℕ, ◌-◌, true, List, [], is_some, Some, None, Ok, Err, Option, Result, slice_set}
 use Rattle.std.specs.Option.{unwrap_or}
 use Rattle.refusal.specs.declared.Refusal.{Refusal}
 use Rattle.script.specs.declared.Script.{Ghosts as Scripts}

@@ -1,4 +1,4 @@
-use Rattle.std.proofs.Common.{◌≡◌, Ok, Err, sym, ap, ◌∙◌}
+use Rattle.std.proofs.Common.{Ok, Err, ap, ◌∙◌}
 use Rattle.std.proofs.lemmas.Result.{err_from_is_err_and}
 use Rattle.refusal.specs.declared.Side.TheVariants.{First, Second}
 use Rattle.refusal.specs.declared.Refusal.{Refusal}
@@ -16,19 +16,19 @@ returns-in_err-pair g c ok =
 pub returns-in_err-x : goal.returns-in_err-x
 returns-in_err-x g c ok =
     let K = kit_of g.S.Script g.L.ReadableList g.R.Record in
-    let p = err_from_is_err_and c.from-residual-in_err-x.result c.from-residual-in_err-x.ensures.1 in
+    let p = err_from_is_err_and c.from_residual-in_err-x.result c.from_residual-in_err-x.ensures.1 in
     let m = c.in_ok-pair.ensures in
-    add_no_x K g.L.GrowingList.room g.L.GrowingList.enters c.args.list.now c.args.self.now.links c.args.records.now c.args.x.now c.args.y.now c.args.relation c.args.record m.0 c.enter.new.list c.in_err-x.field-0.0 c.from-residual-in_err-x.result
+    add_no_x K g.L.GrowingList.room g.L.GrowingList.enters c.args.list.now c.args.self.now.links c.args.records.now c.args.x.now c.args.y.now c.args.relation c.args.record m.0 c.enter.new.list c.in_err-x.field-0.0 c.from_residual-in_err-x.result
     (stepped K g.L.GrowingList.room g.L.GrowingList.enters c.args.list.now c.args.x.now First c.enter.new.list ok _ m.1.0 (Err c.in_err-x.field-0.0) (c.in_err-x.ensures ok))
     (p.1 ∙ ap (λ (e : Refusal). Err e) p.2)
 
 pub returns-in_err-y : goal.returns-in_err-y
 returns-in_err-y g c ok =
     let K = kit_of g.S.Script g.L.ReadableList g.R.Record in
-    let p = err_from_is_err_and c.from-residual-in_err-y.result c.from-residual-in_err-y.ensures.1 in
+    let p = err_from_is_err_and c.from_residual-in_err-y.result c.from_residual-in_err-y.ensures.1 in
     let m = c.in_ok-pair.ensures in
     let wx = stepped K g.L.GrowingList.room g.L.GrowingList.enters c.args.list.now c.args.x.now First c.enter.new.list ok _ m.1.0 (Ok c.in_ok-x.x) (c.in_ok-x.ensures ok) in
-    add_no_y K g.L.GrowingList.room g.L.GrowingList.enters c.args.list.now c.args.self.now.links c.args.records.now c.args.x.now c.args.y.now c.args.relation c.args.record m.0 c.enter.new.list c.enter-2.new.list c.in_ok-x.x wx c.in_err-y.field-0.0 c.from-residual-in_err-y.result
+    add_no_y K g.L.GrowingList.room g.L.GrowingList.enters c.args.list.now c.args.self.now.links c.args.records.now c.args.x.now c.args.y.now c.args.relation c.args.record m.0 c.enter.new.list c.enter-2.new.list c.in_ok-x.x wx c.in_err-y.field-0.0 c.from_residual-in_err-y.result
     (stepped K g.L.GrowingList.room g.L.GrowingList.enters c.enter.new.list c.args.y.now Second c.enter-2.new.list wx.sound _ m.1.1 (Err c.in_err-y.field-0.0) (c.in_err-y.ensures wx.sound))
     (p.1 ∙ ap (λ (e : Refusal). Err e) p.2)
 

@@ -1,4 +1,4 @@
-use Rattle.std.proofs.Common.{◌≡◌, Some, None, sym}
+use Rattle.std.proofs.Common.{Some, None, sym}
 use Rattle.store.specs.Links.{word_kit}
 use Rattle.store.proofs.Ties.{find_is}
 use Rattle.store.proofs.table.RelationTable.find.Goals as goal

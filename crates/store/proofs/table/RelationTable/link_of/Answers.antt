@@ -1,4 +1,4 @@
-use Rattle.std.proofs.Common.{◌≡◌, Some, None, Ok, Err, sym, ap, ◌∙◌}
+use Rattle.std.proofs.Common.{Some, None, Ok, Err, sym, ap, ◌∙◌}
 use Rattle.std.proofs.lemmas.Result.{err_from_is_err_and}
 use Rattle.refusal.specs.declared.Refusal.{Refusal}
 use Rattle.store.specs.Links.{word_kit}
@@ -8,7 +8,7 @@ use Rattle.store.proofs.table.RelationTable.link_of.Goals as goal
 pub returns-in_err-triple : goal.returns-in_err-triple
 returns-in_err-triple g c ok =
     let K = word_kit g.S.Script g.L.ReadableList in
-    let p = err_from_is_err_and c.from-residual-in_err-triple.result c.from-residual-in_err-triple.ensures.1 in
+    let p = err_from_is_err_and c.from_residual-in_err-triple.result c.from_residual-in_err-triple.ensures.1 in
     let m = c.in_ok-pair.ensures in
     let k = known_words K c.args.list.now c.args.x.now c.args.y.now c.args.relation c.in_ok-pair.pair (Err c.in_err-triple.field-0.0) m.1 (c.in_err-triple.ensures ok) in
     p.1 ∙ ap (λ (e : Refusal). Err e) p.2

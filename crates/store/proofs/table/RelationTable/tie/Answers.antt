@@ -1,4 +1,4 @@
-use Rattle.std.proofs.Common.{◌≡◌, Ok, Err, sym, ap, ◌∙◌}
+use Rattle.std.proofs.Common.{Ok, Err, ap, ◌∙◌}
 use Rattle.std.proofs.lemmas.Result.{err_from_is_err_and}
 use Rattle.refusal.specs.declared.Refusal.{Refusal}
 use Rattle.history.specs.Kits.{kit_of}
@@ -15,9 +15,9 @@ returns-in_err-pair g c ok =
 pub returns-in_err-triple : goal.returns-in_err-triple
 returns-in_err-triple g c ok =
     let K = kit_of g.S.Script g.L.ReadableList g.R.Record in
-    let p = err_from_is_err_and c.from-residual-in_err-triple.result c.from-residual-in_err-triple.ensures.1 in
+    let p = err_from_is_err_and c.from_residual-in_err-triple.result c.from_residual-in_err-triple.ensures.1 in
     let m = c.in_ok-pair.ensures in
-    tie_unknown K c.args.list.now c.args.self.now.links c.args.records.now c.args.x.now c.args.y.now c.args.relation c.args.record c.in_err-triple.field-0.0 c.from-residual-in_err-triple.result
+    tie_unknown K c.args.list.now c.args.self.now.links c.args.records.now c.args.x.now c.args.y.now c.args.relation c.args.record c.in_err-triple.field-0.0 c.from_residual-in_err-triple.result
     m.0 (known_words K c.args.list.now c.args.x.now c.args.y.now c.args.relation c.in_ok-pair.pair (Err c.in_err-triple.field-0.0) m.1 (c.in_err-triple.ensures ok)) (p.1 ∙ ap (λ (e : Refusal). Err e) p.2)
 
 pub returns : goal.returns
