@@ -17,7 +17,7 @@ use Rattle.history.specs.declared.replies.Link.{Link}
 use Rattle.history.specs.Kits.{Kit, state_of, labels_of, number_in, triple_in}
 use Rattle.history.specs.Refusals.{first, none, word_refusals, delete_refusals}
 use Rattle.history.specs.Calls.{answered, link_in, held_in, refusal_of_delete}
-use Rattle.history.specs.Runs.{Entry, same_word, same_triple, present}
+use Rattle.history.specs.Runs.{Entry, same_word, same_triple}
 use Rattle.history.specs.Laws.{Unless, asks, entries_of}
 use Rattle.history.proofs.Members.{apart_from}
 use Rattle.history.proofs.Options.{none_applies, applies_none}

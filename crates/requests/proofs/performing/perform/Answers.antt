@@ -1,5 +1,5 @@
 use mathlib.Core.Bool.{false}
-use Rattle.history.specs.Kits.{kit_of, state_of}
+use Rattle.history.specs.Kits.{kit_of}
 use Rattle.requests.specs.Requests.{call_of}
 use Rattle.history.specs.Runs.{anything}
 use Rattle.history.proofs.Onwards.{onward}

@@ -1,4 +1,4 @@
-use Rattle.history.specs.Kits.{kit_of, state_of}
+use Rattle.history.specs.Kits.{kit_of}
 use Rattle.requests.specs.Requests.{growing_call_of}
 use Rattle.history.proofs.Onwards.{onward}
 use Rattle.requests.proofs.performing.perform_growing.Goals as goal

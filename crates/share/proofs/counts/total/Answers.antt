@@ -7,11 +7,11 @@ use Rattle.share.proofs.counts.total.Goals as goal
 pub loop-upper-init : goal.loop-upper-init
 loop-upper-init c = (total_none c.args.table.now c.args.records.now c.args.x c.args.relation, omega arith)
 
-pub slice-bounds-rows-end : goal.slice-bounds-rows-end
-slice-bounds-rows-end c = omega (arith, c.list_upper-count.ensures.few, c.list_upper-count.array_long)
+pub slice_bounds-rows-end : goal.slice_bounds-rows-end
+slice_bounds-rows-end c = omega (arith, c.list_upper-count.ensures.few, c.list_upper-count.array_long)
 
-pub slice-bounds-sum_at-end : goal.slice-bounds-sum_at-end
-slice-bounds-sum_at-end c =
+pub slice_bounds-sum_at-end : goal.slice_bounds-sum_at-end
+slice_bounds-sum_at-end c =
     let rows = front _ _ _ _ c.list_upper-count.ensures.output in
     c.list_upper-count.ensures.output.1 ∙ sym (ap length rows)
 
