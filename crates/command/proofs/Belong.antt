@@ -2,6 +2,7 @@
 use Rattle.std.proofs.Common.{◌≡◌, ℕ, ◌≤◌, Bool, true, false, cond, ◌&&◌, eqb, leb, List, [], ◌∷◌, ◌++◌, length, get_or, drop, Some, None, decimal, All, Option, sym, refl, ap, ◌∙◌, subst, arith}
 use Rattle.std.specs.Option.{option_map, option_zip}
 use Rattle.std.proofs.lemmas.Bool.{cond-true, eqb-true, le-leb, leb-true, and_from, and_parts}
+use Rattle.std.proofs.lemmas.List.Elements.{All-nil, All-cons}
 use Rattle.command.specs.Fields.{fields}
 use Rattle.command.specs.Numbers.{number_of}
 use Rattle.command.specs.Commands.{Asked, add, tie, delete, find, share, list, letter, field, word_fields, pair_fields, count_fields, letter_asks, asked_by}
@@ -16,6 +17,19 @@ relation_read q within = (reads_back 255 (omega arith)).written q within
 
 count_read : (c : ℕ) → c ≤ 4294967295 → number_of 4294967295 (decimal c) ≡ Some c
 count_read c within = (reads_back 4294967295 (omega arith)).written c within
+
+-- the fields of a sound command have no tab
+numbered_clear : (x : List ℕ) (n : ℕ) → Tabless x → n ≤ 4294967295 → All Tabless (x ∷ (decimal n ∷ []))
+numbered_clear x n clear within =
+    All-cons Tabless x (decimal n ∷ []) clear (All-cons Tabless (decimal n) [] (tabless_decimal n (omega arith)) (All-nil Tabless))
+
+pairs_clear : (x y : List ℕ) (q : ℕ) → Tabless x × Tabless y × (q ≤ 255) → All Tabless (x ∷ (y ∷ (decimal q ∷ [])))
+pairs_clear x y q sound = All-cons Tabless x (y ∷ (decimal q ∷ [])) sound.0 (numbered_clear y q sound.1 (omega (arith, sound.2)))
+
+counts_clear : (x y : List ℕ) (q c : ℕ) → Tabless x × Tabless y × (q ≤ 255) × (c ≤ 4294967295) → All Tabless (x ∷ (y ∷ (decimal q ∷ (decimal c ∷ []))))
+counts_clear x y q c sound =
+    All-cons Tabless x (y ∷ (decimal q ∷ (decimal c ∷ []))) sound.0
+    (All-cons Tabless y (decimal q ∷ (decimal c ∷ [])) sound.1 (numbered_clear (decimal q) c (tabless_decimal q (omega (arith, sound.2))) sound.3))
 
 line_reads : (l : ℕ) (f : List ℕ) (fs : List (List ℕ)) (line : List ℕ) → line ≡ l ∷ tabbed (f ∷ fs) → All Tabless (f ∷ fs) → length line ≤ 127
     → asked_by line ≡ letter_asks l (f ∷ fs)
@@ -40,22 +54,22 @@ counts_read x y q c small within =
 
 reads : (line : List ℕ) (asked : Asked) → Writes line asked → asked_by line ≡ Some asked
 reads line (add x y q c) w =
-    line_reads (letter "A") x (y ∷ (decimal q ∷ (decimal c ∷ []))) line w.text (w.sound.0, (w.sound.1, (tabless_decimal q (omega (arith, w.sound.2)), (tabless_decimal c (omega (arith, w.sound.3)), tt)))) w.short
+    line_reads (letter "A") x (y ∷ (decimal q ∷ (decimal c ∷ []))) line w.text (counts_clear x y q c w.sound) w.short
     ∙ ap (option_map (λ (p : List ℕ × List ℕ × ℕ × ℕ). add p.0 p.1 p.2 p.3)) (counts_read x y q c w.sound.2 w.sound.3)
 reads line (tie x y q c) w =
-    line_reads (letter "T") x (y ∷ (decimal q ∷ (decimal c ∷ []))) line w.text (w.sound.0, (w.sound.1, (tabless_decimal q (omega (arith, w.sound.2)), (tabless_decimal c (omega (arith, w.sound.3)), tt)))) w.short
+    line_reads (letter "T") x (y ∷ (decimal q ∷ (decimal c ∷ []))) line w.text (counts_clear x y q c w.sound) w.short
     ∙ ap (option_map (λ (p : List ℕ × List ℕ × ℕ × ℕ). tie p.0 p.1 p.2 p.3)) (counts_read x y q c w.sound.2 w.sound.3)
 reads line (delete x y q) w =
-    line_reads (letter "D") x (y ∷ (decimal q ∷ [])) line w.text (w.sound.0, (w.sound.1, (tabless_decimal q (omega (arith, w.sound.2)), tt))) w.short
+    line_reads (letter "D") x (y ∷ (decimal q ∷ [])) line w.text (pairs_clear x y q w.sound) w.short
     ∙ ap (option_map (λ (p : List ℕ × List ℕ × ℕ). delete p.0 p.1 p.2)) (pairs_read x y q w.sound.2)
 reads line (find x y q) w =
-    line_reads (letter "F") x (y ∷ (decimal q ∷ [])) line w.text (w.sound.0, (w.sound.1, (tabless_decimal q (omega (arith, w.sound.2)), tt))) w.short
+    line_reads (letter "F") x (y ∷ (decimal q ∷ [])) line w.text (pairs_clear x y q w.sound) w.short
     ∙ ap (option_map (λ (p : List ℕ × List ℕ × ℕ). find p.0 p.1 p.2)) (pairs_read x y q w.sound.2)
 reads line (share x y q) w =
-    line_reads (letter "S") x (y ∷ (decimal q ∷ [])) line w.text (w.sound.0, (w.sound.1, (tabless_decimal q (omega (arith, w.sound.2)), tt))) w.short
+    line_reads (letter "S") x (y ∷ (decimal q ∷ [])) line w.text (pairs_clear x y q w.sound) w.short
     ∙ ap (option_map (λ (p : List ℕ × List ℕ × ℕ). share p.0 p.1 p.2)) (pairs_read x y q w.sound.2)
 reads line (list x q) w =
-    line_reads (letter "L") x (decimal q ∷ []) line w.text (w.sound.0, (tabless_decimal q (omega (arith, w.sound.1)), tt)) w.short
+    line_reads (letter "L") x (decimal q ∷ []) line w.text (numbered_clear x q w.sound.0 (omega (arith, w.sound.1))) w.short
     ∙ ap (option_map (λ (p : List ℕ × ℕ). list p.0 p.1)) (words_read x q w.sound.1)
 
 -- what is read was written so
@@ -154,7 +168,7 @@ module _ (line : List ℕ) (l : ℕ) (fs : List (List ℕ)) (text : line ≡ l �
       let free = subst (All Tabless) o.0 clear in
       subst (Writes line) m.2 record {
         text = same_text n is _ o.0 ∙ sym (lines p.0 p.1 p.2 p.3);
-        sound = sounds p.0 p.1 p.2 p.3 (free.0, free.1.0, o.1, o.2);
+        sound = sounds p.0 p.1 p.2 p.3 (free 0 [] (omega arith), free 1 [] (omega arith), o.1, o.2);
         short = short;
       }
 
@@ -169,7 +183,7 @@ module _ (line : List ℕ) (l : ℕ) (fs : List (List ℕ)) (text : line ≡ l �
       let free = subst (All Tabless) o.0 clear in
       subst (Writes line) m.2 record {
         text = same_text n is _ o.0 ∙ sym (lines p.0 p.1 p.2);
-        sound = sounds p.0 p.1 p.2 (free.0, free.1.0, o.1);
+        sound = sounds p.0 p.1 p.2 (free 0 [] (omega arith), free 1 [] (omega arith), o.1);
         short = short;
       }
 
@@ -178,7 +192,7 @@ module _ (line : List ℕ) (l : ℕ) (fs : List (List ℕ)) (text : line ≡ l �
       let m = from_mapped (λ (p : List ℕ × ℕ). list p.0 p.1) (word_fields fs) a found in
       let o = words_only fs m.0 m.1 in
       let free = subst (All Tabless) o.0 clear in
-      subst (Writes line) m.2 record { text = same_text (letter "L") is _ o.0; sound = (free.0, o.1); short = short }
+      subst (Writes line) m.2 record { text = same_text (letter "L") is _ o.0; sound = (free 0 [] (omega arith), o.1); short = short }
 
   by_letter : letter_asks l fs ≡ Some a → Writes line a
   by_letter e =

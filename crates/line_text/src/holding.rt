@@ -1,5 +1,5 @@
 // Rows as they are taken and held.
-ghost use Rattle.std.specs.Prelude.{◌≡◌, ◌≤◌, ltb, [], ◌∷◌, ◌++◌, length, if◌then◌else◌, nat_lt};
+ghost use Rattle.std.specs.Prelude.{◌≡◌, ◌≤◌, [], ◌∷◌, ◌++◌, length, if◌then◌else◌, nat_lt};
 ghost use Rattle.line_text.specs.Texts.{rows_in};
 
 use super::rows::{LineRow, LineRows};
@@ -27,7 +27,7 @@ impl LineRows {
     // there was none the rows stay.
     pub fn push(&mut self, row: LineRow) -> bool
         ensures room { result ≡ nat_lt (length (rows_in self.old)) 100 }
-        ensures after { rows_in self.new ≡ (if ltb (length (rows_in self.old)) 100 then rows_in self.old ++ row ∷ [] else rows_in self.old) }
+        ensures after { rows_in self.new ≡ (if nat_lt (length (rows_in self.old)) 100 then rows_in self.old ++ row ∷ [] else rows_in self.old) }
     {
         if self.count >= ROW_PLACES {
             return false;

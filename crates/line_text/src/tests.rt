@@ -85,12 +85,15 @@ fn a_full_listing(rt: HostRuntime) {
         write_answer(&Ok(LineAnswer::Listing(rows)), &mut out),
         Some(2108)
     );
-    assert_eq!(rt; &out[2079..2108], b"255\t65535\t4294967295\nend\t100\n");
+    assert_eq!(rt;
+        &out[2079..2108],
+        b"255\t65535\t4294967295\nend\t100\n".as_slice()
+    );
 }
 
 #[test]
 fn short_outputs(rt: HostRuntime) {
     let mut out = [b'#'; 4095];
     assert_eq!(rt; write_answer(&Ok(LineAnswer::Done), &mut out), None);
-    assert_eq!(rt; &out[0..3], b"###");
+    assert_eq!(rt; &out[0..3], b"###".as_slice());
 }
