@@ -1,5 +1,5 @@
 -- What find replies, as it is printed, and what commands say.
-use Rattle.std.proofs.Common.{◌≡◌, ℕ, List, Some, None, Ok, Err, Option, Result, sym, refl, subst}
+use Rattle.std.proofs.Common.{◌≡◌, ℕ, List, Some, Ok, Err, Option, Result, sym, refl, subst}
 use Rattle.refusal.specs.declared.Refusal.{Refusal}
 use Rattle.record.specs.declared.Tally.{Tally}
 use Rattle.history.specs.declared.replies.Link.{Link}

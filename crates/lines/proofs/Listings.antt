@@ -1,5 +1,5 @@
 -- Rows with their counts, one after another, and the text of a listing.
-use Rattle.std.proofs.Common.{◌≡◌, ℕ, ◌+◌, ◌<◌, ◌≤◌, Bool, true, false, cond, not, ltb, leb, List, [], ◌∷◌, ◌++◌, map, length, get_or, take, Some, None, Ok, Err, codes, Option, Result, sym, refl, ap, ◌∙◌, subst, arith, length-take}
+use Rattle.std.proofs.Common.{◌≡◌, ℕ, ◌+◌, ◌<◌, ◌≤◌, Bool, true, false, cond, not, ltb, leb, List, [], ◌∷◌, ◌++◌, map, length, get_or, take, Some, None, Ok, codes, Option, Result, sym, refl, ap, ◌∙◌, subst, arith, length-take}
 use lib.ListN.{length-map}
 use Rattle.std.proofs.lemmas.List.{take_more, map_push}
 use Rattle.std.proofs.lemmas.Bool.{cond-true, lt-ltb, le-leb, ltb-false}
@@ -17,7 +17,7 @@ use Rattle.history.specs.Calls.{Decided, replied}
 use Rattle.share.specs.Shares.{count_at}
 use Rattle.line_text.specs.declared.rows.LineRow.{LineRow}
 use Rattle.line_text.specs.Texts.{rows_text}
-use Rattle.lines.specs.Lines.{row_of, refused_text, listing_line, listed_text}
+use Rattle.lines.specs.Lines.{row_of, listing_line, listed_text}
 
 -- one row more, where there is a place
 pub counted_more : (records : List Tally) (rows : List LinkRow) (i : ℕ) (d : LinkRow) (held later : List LineRow) (n : ℕ) → i < length rows → length rows ≤ 100 → held ≡ map (row_of records) (take i rows)

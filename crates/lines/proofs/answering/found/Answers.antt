@@ -1,7 +1,5 @@
-use Rattle.std.proofs.Common.{◌≡◌, List, Result, sym, ap, ◌∙◌}
+use Rattle.std.proofs.Common.{◌≡◌, List, ap, ◌∙◌}
 use Rattle.record.specs.declared.Tally.{Tally}
-use Rattle.refusal.specs.declared.Refusal.{Refusal}
-use Rattle.history.specs.declared.replies.Reply.{Reply}
 use Rattle.history.specs.Calls.{find_of}
 use Rattle.stores.specs.Meanings.{trie_tally_kit}
 use Rattle.lines.specs.Lines.{Store, found_text}

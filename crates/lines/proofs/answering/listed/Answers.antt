@@ -1,4 +1,4 @@
-use Rattle.std.proofs.Common.{◌≡◌, List, replicate, sym, refl, ap, ◌∙◌}
+use Rattle.std.proofs.Common.{◌≡◌, List, replicate, refl, ap, ◌∙◌}
 use Rattle.record.specs.declared.Tally.{Tally}
 use Rattle.listing.specs.declared.row.LinkRow.{LinkRow}
 use Rattle.history.specs.Kits.{number_in}
