@@ -65,6 +65,7 @@ impl Record for Score {
 }
 
 // The score is sound. No score with a NaN in it is.
+#[tactic(auto, using(crate::proofs::Floats::nan_unsound))]
 pub fn is_sound_score(score: Score) -> bool
     ensures answer { result ≡ sound_score score }
     ensures nan { NanUnsound }
