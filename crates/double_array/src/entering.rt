@@ -82,7 +82,7 @@ fn undo(cells: &mut [Cell], index: &mut [u32], grown: Growth)
     requires base { grown.base < 2 ^ 31 }
     requires parents { Parented cells.old }
     requires to { (k : ℕ) → k < length (child_codes (freed_up grown.new cells.old grown.tip) grown.node) → grown.base + slice_index (child_codes (freed_up grown.new cells.old grown.tip) grown.node) k < length cells.old }
-    ensures { record { cells = cells.exit.now; index = index.new } ≡ undone cells.entry.now index.old grown.node grown.base grown.new grown.tip }
+    ensures { record { cells = cells.new; index = index.new } ≡ undone cells.old index.old grown.node grown.base grown.new grown.tip }
 {
     free_up(cells, grown.tip, grown.new);
     if cell_number(cells[grown.node].base) != grown.base {

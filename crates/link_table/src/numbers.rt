@@ -1,5 +1,5 @@
 // Numbers without a leaf.
-ghost use Rattle.std.specs.Prelude.{◌≡◌, ℕ, ◌<◌, ◌≤◌, length, MatchOption};
+ghost use Rattle.std.specs.Prelude.{◌<◌};
 ghost use Rattle.link_table.specs.Numbers.{Vacant};
 
 // The first place from `from` on whose index entry is 0.

@@ -1,5 +1,5 @@
 // The calls of a plain list.
-ghost use Rattle.std.specs.Prelude.{◌≡◌, ◌<◌, true, List, [], ◌∷◌, ◌++◌, length, slice_index_or};
+ghost use Rattle.std.specs.Prelude.{◌≡◌, ◌<◌, true, [], ◌∷◌, ◌++◌, slice_index_or};
 ghost use Rattle.lexicon.specs.Rolls.{number_of, numbered};
 ghost use Rattle.lexicon.specs.Answers.{is_new};
 ghost use Rattle.plain_list.specs.Plain.{roll_of, fits_free, room_of, Made, Appended};

@@ -1,5 +1,5 @@
 // Any of the calls, made by a request: the law of every history stands here.
-ghost use Rattle.std.specs.Prelude.{◌≡◌, false};
+ghost use Rattle.std.specs.Prelude.{false};
 ghost use Rattle.history.specs.Kits.{kit_of, state_of};
 ghost use Rattle.history.specs.Calls.{Steps};
 ghost use Rattle.history.specs.Runs.{anything};

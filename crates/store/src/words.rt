@@ -1,6 +1,5 @@
 // From words of symbols to labels, and from labels to numbers of words.
-ghost use Rattle.std.specs.Prelude.{◌≡◌, length};
-ghost use Rattle.lexicon.specs.Answers.{EnterLeaves};
+ghost use Rattle.std.specs.Prelude.{◌≡◌};
 ghost use Rattle.lexicon.specs.Rolls.{number_of};
 ghost use Rattle.store.specs.Words.{labels_in, Spelt, PairSpelt, Admitted, KnownTriple, EnteredWord};
 
