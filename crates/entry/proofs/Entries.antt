@@ -8,9 +8,7 @@ use Rattle.refusal.specs.declared.Refusal.{Refusal}
 use Rattle.refusal.specs.declared.Refusal.TheVariants.{WordLength, NoRoom}
 use Rattle.refusal.specs.Reports.{list_refusal}
 use Rattle.refusal.specs.declared.SpellFault.TheVariants.{WordLength as TooLong}
-use Rattle.output.specs.Written.{written}
-use Rattle.output.proofs.Writes.{written_start}
-use Rattle.script.specs.Words.{word_sized, spelled, spell_answer, spell_output, WordsApart}
+use Rattle.script.specs.Words.{word_sized, spelled, spell_answer, WordsApart}
 use Rattle.lexicon.specs.Rolls.{label_sized, number_of}
 use Rattle.lexicon.specs.Answers.{held_or_next, enter_answer, is_new, EnterLeaves}
 use Rattle.lexicon.proofs.Numbers.{bounds_label, number_some, number_from_kept, number_from_last, number_from_only}
@@ -90,28 +88,27 @@ module _ {S : Type 0} (spelling : S → List ℕ) (before : List (List ℕ)) (ro
       subst (λ (z : Result Entry Refusal). KeepsNumbers spelling before word after z) (sym said)
       (by_cases apart after o room refl (subst (λ (b : Bool). RollLeaves before (spelled spelling word) after b) new leaves))
 
--- a word that was spelled into an output: its size is right, and its labels stand at the start
+-- a word that was spelled: its size is right, and these are its labels
 pub record Spelled {S : Type 0} (spelling : S → List ℕ) (word : List S) (slice : List ℕ) : Type 0 where
   pub sized : word_sized word ≡ true
   pub labels : label_sized (spelled spelling word) ≡ true
   pub same : slice ≡ spelled spelling word
 
-pub spelled_slice : {S : Type 0} (spelling : S → List ℕ) (word : List S) (old out : List ℕ) (size : ℕ)
-    → Ok size ≡ spell_answer spelling word → out ≡ spell_output spelling word old → (1 ≤ size) × (size ≤ 128)
-    → Spelled spelling word (take (size - 0) out)
-spelled_slice spelling word old out size answer output bounds =
+pub spelled_slice : {S : Type 0} (spelling : S → List ℕ) (word : List S) (labels slice : List ℕ) → slice ≡ labels
+    → Ok labels ≡ spell_answer spelling word → (1 ≤ length labels) × (length labels ≤ 128)
+    → Spelled spelling word slice
+spelled_slice spelling word labels slice whole answer bounds =
     ⊎_elim
     (λ fit.
-    let said : Ok size ≡ Ok (length w) = answer ∙ cond-true (word_sized word) (Ok (length w)) (Err TooLong) fit in
-    let long : length w ≡ size = cc in
-    let whole : length w ≡ size - 0 = omega arith in
+    let said : Ok labels ≡ Ok w = answer ∙ cond-true (word_sized word) (Ok w) (Err TooLong) fit in
+    let same : labels ≡ w = cc in
     record {
       sized = fit;
-      labels = bounds_label w (omega (arith, bounds.0)) (omega (arith, bounds.1));
-      same = ap (take (size - 0)) (output ∙ cond-true (word_sized word) (written old 0 w) old fit) ∙ written_start old w (size - 0) whole;
+      labels = bounds_label w (omega (arith, bounds.0, ap length same)) (omega (arith, bounds.1, ap length same));
+      same = whole ∙ same;
     })
     (λ misfit.
-    absurd (let said : Ok size ≡ Err TooLong = answer ∙ cond-false (word_sized word) (Ok (length w)) (Err TooLong) misfit in
+    absurd (let said : Ok labels ≡ Err TooLong = answer ∙ cond-false (word_sized word) (Ok w) (Err TooLong) misfit in
     let z : ◌≡◌ {A = ℕ} 0 1 = cc in omega arith))
     (cases_Bool (word_sized word))
   where

@@ -3,13 +3,14 @@ use Rattle.std.specs.Prelude.{◌≡◌, ℕ, ◌+◌, Bool, true, false, cond, 
 use Rattle.refusal.specs.declared.Side.TheVariants.{Neither}
 use Rattle.refusal.specs.declared.Refusal.{Refusal}
 use Rattle.refusal.specs.declared.Refusal.TheVariants.{WordLength, NoRoom}
+use Rattle.std.specs.Result.{result_map_both}
+use Rattle.refusal.specs.declared.Report.{Report}
 use Rattle.refusal.specs.Reports.{report_of, report_text}
 use Rattle.script.specs.Words.{word_sized, spelled}
 use Rattle.lexicon.specs.Rolls.{number_of}
 use Rattle.entry.specs.declared.Entry.{Entry}
 use Rattle.entry.specs.declared.Entry.TheVariants.{New, Held}
 use Rattle.entry.specs.declared.Reply.{Reply}
-use Rattle.entry.specs.declared.Reply.TheVariants.{Entered, Refused}
 
 -- entering a word of the right length: held with its number, or new with the next after the last, or refused
 abbrev pub held_or_new : Option ℕ → Bool → ℕ → Result Entry Refusal
@@ -52,11 +53,14 @@ asked_of (b ∷ more) = cond (b == 63) (Some more) None
 
 -- the reply to an answer
 abbrev pub reply_of : Result Entry Refusal → Reply
-reply_of (Ok entry) = Entered entry
-reply_of (Err refusal) = Refused (report_of refusal)
+reply_of answer = record { 0 = result_map_both (λ entry. entry) report_of answer }
+
+-- an answer as it is printed
+abbrev pub answer_text : Result Entry Report → List ℕ
+answer_text (Ok (New number)) = decimal number ++ codes " new"
+answer_text (Ok (Held number)) = decimal number ++ codes " held"
+answer_text (Err report) = codes "no " ++ report_text report
 
 -- a reply as it is printed
 abbrev pub reply_text : Reply → List ℕ
-reply_text (Entered (New number)) = decimal number ++ codes " new"
-reply_text (Entered (Held number)) = decimal number ++ codes " held"
-reply_text (Refused report) = codes "no " ++ report_text report
+reply_text r = answer_text r.0

@@ -31,10 +31,9 @@ pub fn enter_word<S: Script, L: GrowingList>(list: &mut L, word: &[S]) -> Result
     ensures after { L.ReadableList.sound list.old → EnterLeaves L.ReadableList.roll L.ReadableList.sound L.GrowingList.enters list.old (spelled S.Script.spelling word.now) list.new (word_sized word.now && is_new (L.ReadableList.roll list.old) (L.GrowingList.room list.old (spelled S.Script.spelling word.now)) (spelled S.Script.spelling word.now)) }
     ensures numbers { L.ReadableList.sound list.old → KeepsNumbers S.Script.spelling (L.ReadableList.roll list.old) word.now (L.ReadableList.roll list.new) result }
 {
-    let mut labels = [0u8; 128];
-    let size = spell_word(word, &mut labels)?;
+    let labels = spell_word(word)?;
     let before = list.count();
-    let number = list.enter(&labels[0..size])?;
+    let number = list.enter(labels.as_slice())?;
     if number > before {
         Ok(Entry::New(number))
     } else {
@@ -48,10 +47,7 @@ fn labels_of<L: ReadableList>(list: &L, number: u16) -> usize
     ensures labels { L.ReadableList.sound list.now → numbered (L.ReadableList.roll list.now) number ≡ true → result ≡ length (word_of (L.ReadableList.roll list.now) number) }
 {
     let mut word = [0u8; 128];
-    match list.spell(number, &mut word) {
-        Ok(size) => size,
-        Err(_) => 0,
-    }
+    list.spell(number, &mut word).unwrap_or(0)
 }
 
 // How many labels the words of the list have together.
@@ -87,20 +83,16 @@ pub fn beginning_of(line: &[u8]) -> Option<&[u8]>
     }
 }
 
-// What is printed for one line of words.
+// What is printed for one line of words: the entry, or the report of the refusal.
 #[derive(Clone, Copy, PartialEq, Eq, Debug)]
-pub enum Reply {
-    Entered(Entry),
-    Refused(Report),
-}
+pub struct Reply(pub Result<Entry, Report>);
 
 // The reply to what entering a word answered.
-pub fn reply_to(answer: Result<Entry, Refusal>) -> Reply
-    ensures { result ≡ reply_of answer }
-{
-    match answer {
-        Ok(entry) => Reply::Entered(entry),
-        Err(refusal) => Reply::Refused(refusal.report()),
+impl From<Result<Entry, Refusal>> for Reply {
+    ghost from_gives = { λ answer r. r ≡ reply_of answer };
+
+    fn from(answer: Result<Entry, Refusal>) -> Reply {
+        Reply(answer.map_err(|refusal| refusal.report()))
     }
 }
 
@@ -109,10 +101,10 @@ impl fmt::Display for Reply {
     ghost output = { λ r. Some (reply_text r) };
 
     fn fmt<W: fmt::Write>(&self, f: &mut fmt::Formatter<W>) -> fmt::Result {
-        match *self {
-            Reply::Entered(Entry::New(number)) => write!(f, "{number} new"),
-            Reply::Entered(Entry::Held(number)) => write!(f, "{number} held"),
-            Reply::Refused(report) => write!(f, "no {report}"),
+        match self.0 {
+            Ok(Entry::New(number)) => write!(f, "{number} new"),
+            Ok(Entry::Held(number)) => write!(f, "{number} held"),
+            Err(report) => write!(f, "no {report}"),
         }
     }
 }

@@ -3,7 +3,6 @@ use Rattle.std.specs.Prelude.{◌≡◌, ℕ, Bool, cond, ◌&&◌, List, length
 use Rattle.std.specs.List.{flat_map}
 use Rattle.refusal.specs.declared.SpellFault.{SpellFault}
 use Rattle.refusal.specs.declared.SpellFault.TheVariants.{WordLength}
-use Rattle.output.specs.Written.{written}
 
 -- a word has 1 to 32 symbols
 abbrev pub word_sized : {S : Type 0} → List S → Bool
@@ -13,13 +12,9 @@ word_sized word = nat_le 1 (length word) && nat_le (length word) 32
 abbrev pub spelled : {S : Type 0} → (S → List ℕ) → List S → List ℕ
 spelled spelling word = flat_map spelling word
 
--- what spelling a word answers: how many labels it has, or the refusal
-abbrev pub spell_answer : {S : Type 0} → (S → List ℕ) → List S → Result ℕ SpellFault
-spell_answer spelling word = cond (word_sized word) (Ok (length (spelled spelling word))) (Err WordLength)
-
--- what the output holds then: the labels from its start and the rest as it was, or all as it was
-abbrev pub spell_output : {S : Type 0} → (S → List ℕ) → List S → List ℕ → List ℕ
-spell_output spelling word out = cond (word_sized word) (written out 0 (spelled spelling word)) out
+-- what spelling a word answers: its labels, or the refusal
+abbrev pub spell_answer : {S : Type 0} → (S → List ℕ) → List S → Result (List ℕ) SpellFault
+spell_answer spelling word = cond (word_sized word) (Ok (spelled spelling word)) (Err WordLength)
 
 -- no two words are spelled alike
 abbrev pub WordsApart : {S : Type 0} → (S → List ℕ) → Type 0

@@ -4,7 +4,6 @@ ghost use Rattle.script.specs.Alphabets.{upper_first, sign};
 ghost use Rattle.std.proofs.Common.{rules};
 
 use super::Script;
-use super::spelling::Spelling;
 
 // Byte text: each byte is its own label.
 impl Script for u8 {
@@ -18,11 +17,10 @@ impl Script for u8 {
 
     ghost apart = { Prim.search rules };
 
-    fn spell(&self) -> Spelling {
-        Spelling {
-            labels: [*self, 0, 0, 0],
-            count: 1,
-        }
+    type Labels = [u8; 1];
+
+    fn spell(&self) -> [u8; 1] {
+        [*self]
     }
 }
 
@@ -38,13 +36,10 @@ impl Script for u16 {
 
     ghost apart = { Prim.search rules };
 
-    fn spell(&self) -> Spelling {
-        let upper = (*self / 256) as u8;
-        let lower = (*self % 256) as u8;
-        Spelling {
-            labels: [upper, lower, 0, 0],
-            count: 2,
-        }
+    type Labels = [u8; 2];
+
+    fn spell(&self) -> [u8; 2] {
+        self.to_be_bytes()
     }
 }
 
@@ -79,12 +74,10 @@ impl Script for MorphemeSign {
 
     ghost apart = { Prim.search rules };
 
-    fn spell(&self) -> Spelling {
-        let upper = (self.form / 256) as u8;
-        let lower = (self.form % 256) as u8;
-        Spelling {
-            labels: [self.class as u8, upper, lower, 0],
-            count: 3,
-        }
+    type Labels = [u8; 3];
+
+    fn spell(&self) -> [u8; 3] {
+        let [upper, lower] = self.form.to_be_bytes();
+        [self.class as u8, upper, lower]
     }
 }

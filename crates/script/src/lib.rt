@@ -7,16 +7,16 @@
 #![tactic(auto)]
 
 ghost use Rattle.std.specs.Prelude.{◌≡◌, ℕ, ◌≤◌, List, length, IfOk};
-ghost use Rattle.script.specs.Words.{word_sized, spell_answer, spell_output, WordsApart};
-ghost use Rattle.script.specs.Spellings.{labels_of};
+ghost use Rattle.std.specs.Result.{result_map_both};
+ghost use Rattle.script.specs.Words.{word_sized, spell_answer, WordsApart};
 
+use arrayvec::ArrayVec;
 use refusal::SpellFault;
+use std::convert::AsSlice;
 
 mod alphabets;
-mod spelling;
 
 pub use alphabets::{MorphemeClass, MorphemeSign};
-pub use spelling::Spelling;
 
 // A script is told by the type of its symbols. Its meaning is the spelling of each symbol.
 pub trait Script {
@@ -26,9 +26,12 @@ pub trait Script {
     // The labels of a symbol, in their order.
     ghost spelling: { Self → List ℕ };
 
+    // As many labels as a symbol has.
+    type Labels: AsSlice<u8> + Copy;
+
     // The labels of the symbol.
-    fn spell(&self) -> Spelling
-        ensures { labels_of result ≡ spelling self.now };
+    fn spell(&self) -> Self::Labels
+        ensures { Self.Labels.items result ≡ spelling self.now };
 
     ghost narrow: { (1 ≤ width) × (width ≤ 4) };
 
@@ -44,22 +47,21 @@ fn has_word_size<S: Script>(word: &[S]) -> bool
     1 <= word.len() && word.len() <= 32
 }
 
-// Writes the labels of a word from the start of the output, and answers how many there are; what
-// stands after them stays. A word of no symbol or of more than 32 is refused, and nothing is written.
-pub fn spell_word<S: Script>(word: &[S], out: &mut [u8; 128]) -> Result<usize, SpellFault>
-    ensures answer { result ≡ spell_answer S.Script.spelling word.now }
-    ensures output { out.new ≡ spell_output S.Script.spelling word.now out.old }
-    ensures sized { IfOk result (λ n. (1 ≤ n) × (n ≤ 128)) }
+// The labels of a word, those of one symbol after another. A word of no symbol or of more than 32 is
+// refused.
+pub fn spell_word<S: Script>(word: &[S]) -> Result<ArrayVec<u8, 128>, SpellFault>
+    ensures answer { result_map_both (λ v. v.items) (λ e. e) result ≡ spell_answer S.Script.spelling word.now }
+    ensures sized { IfOk result (λ v. (1 ≤ length v.items) × (length v.items ≤ 128)) }
     ensures apart { WordsApart S.Script.spelling }
 {
     if !has_word_size(word) {
         return Err(SpellFault::WordLength);
     }
-    let mut at = 0;
+    let mut labels = ArrayVec::new();
     for symbol in word {
-        let labels = symbol.spell();
-        // 32 symbols of at most 4 labels fit the output.
-        at = output::put(out, at, labels.as_slice()).unwrap();
+        let spelling = symbol.spell();
+        // 32 symbols of at most 4 labels fit.
+        labels.try_extend_from_slice(spelling.as_slice()).unwrap();
     }
-    Ok(at)
+    Ok(labels)
 }

@@ -8,8 +8,8 @@ use Rattle.entry.proofs.enter_word.Goals as goal
 
 pub returns-in_err-number : goal.returns-in_err-number
 returns-in_err-number g c =
-    let m = c.in_ok-size.ensures in
-    let fit = spelled_slice g.S.Script.spelling c.args.word.now _ _ c.in_ok-size.size m.answer m.output m.sized in
+    let m = c.in_ok-labels.ensures in
+    let fit = spelled_slice g.S.Script.spelling c.args.word.now _ _ c.as_slice.ensures.value m.answer m.sized in
     let p = err_from_is_err_and c.from_residual-in_err-number.result c.from_residual-in_err-number.ensures.1 in
     let all = told g.S.Script.spelling g.L.ReadableList.roll g.L.ReadableList.sound g.L.GrowingList.room g.L.GrowingList.enters c.args.list.now c.args.word.now c.enter.new.self
     m.apart _ fit c.count-before.result (Err c.in_err-number.field-0.0) c.count-before.ensures
@@ -19,8 +19,8 @@ returns-in_err-number g c =
 
 pub returns-then-number-before : goal.returns-then-number-before
 returns-then-number-before g c =
-    let m = c.in_ok-size.ensures in
-    let fit = spelled_slice g.S.Script.spelling c.args.word.now _ _ c.in_ok-size.size m.answer m.output m.sized in
+    let m = c.in_ok-labels.ensures in
+    let fit = spelled_slice g.S.Script.spelling c.args.word.now _ _ c.as_slice.ensures.value m.answer m.sized in
     let all = told g.S.Script.spelling g.L.ReadableList.roll g.L.ReadableList.sound g.L.GrowingList.room g.L.GrowingList.enters c.args.list.now c.args.word.now c.enter.new.self
     m.apart _ fit c.count-before.result (Ok c.in_ok-number.number) c.count-before.ensures
     c.in_ok-number.ensures.answer c.in_ok-number.ensures.after
@@ -29,8 +29,8 @@ returns-then-number-before g c =
 
 pub returns-else-number-before : goal.returns-else-number-before
 returns-else-number-before g c =
-    let m = c.in_ok-size.ensures in
-    let fit = spelled_slice g.S.Script.spelling c.args.word.now _ _ c.in_ok-size.size m.answer m.output m.sized in
+    let m = c.in_ok-labels.ensures in
+    let fit = spelled_slice g.S.Script.spelling c.args.word.now _ _ c.as_slice.ensures.value m.answer m.sized in
     let all = told g.S.Script.spelling g.L.ReadableList.roll g.L.ReadableList.sound g.L.GrowingList.room g.L.GrowingList.enters c.args.list.now c.args.word.now c.enter.new.self
     m.apart _ fit c.count-before.result (Ok c.in_ok-number.number) c.count-before.ensures
     c.in_ok-number.ensures.answer c.in_ok-number.ensures.after
