@@ -1,5 +1,5 @@
 -- Laws of the numbers of a roll.
-use Rattle.std.proofs.Common.{◌≡◌, ℕ, zero, suc, ◌+◌, ◌-◌, ◌<◌, ◌≤◌, true, false, leb, ◌⊎◌, List, [], ◌∷◌, ◌++◌, length, get_or, Some, None, Option, sym, refl, ap, ◌∙◌, subst, inl, inr, ⊎_elim, arith}
+use Rattle.std.proofs.Common.{◌≡◌, ℕ, zero, suc, ◌+◌, ◌-◌, ◌<◌, ◌≤◌, true, false, ◌&&◌, leb, ◌⊎◌, List, [], ◌∷◌, ◌++◌, length, get_or, Some, None, Option, sym, refl, ap, ◌∙◌, subst, inl, inr, ⊎_elim, arith}
 use Rattle.std.specs.Str.{bytes_eq}
 use Rattle.std.proofs.lemmas.List.{length_push, get_or_append_left, get_or_push}
 use Rattle.std.proofs.lemmas.Bool.{and_parts, and_from, leb-true, le-leb, cases_Bool, cases_lt, cond-true, cond-false, both_ways}
@@ -20,6 +20,10 @@ pub numbered_bounds : (roll : List (List ℕ)) (n : ℕ) → numbered roll n ≡
 numbered_bounds roll n e =
     let parts = and_parts (leb 1 n) (leb n (length roll)) e in
     (leb-true 1 n parts.0, leb-true n (length roll) parts.1)
+
+-- the test of a number against how many words the roll has
+pub numbered_by : (roll : List (List ℕ)) (n count : ℕ) → length roll ≡ count → (leb 1 n && leb n count) ≡ numbered roll n
+numbered_by roll n count e = ap (λ (k : ℕ). leb 1 n && leb n k) (sym e)
 
 -- the number that is found is that of a place where the word stands
 pub number_from_some : (n : ℕ) (vs : List (List ℕ)) (w : List ℕ) (m : ℕ) → number_from n vs w ≡ Some m → (n ≤ m) × (m - n < length vs) × (get_or vs (m - n) [] ≡ w)

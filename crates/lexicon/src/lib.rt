@@ -5,7 +5,7 @@
 // words. It knows nothing of arrays, cells or scripts. The rules stand in docs/WORD_LISTS.md.
 #![tactic(auto)]
 
-ghost use Rattle.std.specs.Prelude.{◌≡◌, ℕ, ◌≤◌, Bool, List, length, IfOk};
+ghost use Rattle.std.specs.Prelude.{◌≡◌, ℕ, ◌≤◌, Bool, ◌&&◌, List, length, IfOk, nat_le};
 ghost use Rattle.lexicon.specs.Rolls.{Lawful, label_sized};
 ghost use Rattle.lexicon.specs.Answers.{find_answer, word_answer, word_output, enter_answer, is_new, EnterLeaves};
 
@@ -58,4 +58,11 @@ pub fn has_label_size(word: &[u8]) -> bool
     ensures { result ≡ label_sized word.now }
 {
     1 <= word.len() && word.len() <= 128
+}
+
+// Of so many words, one has the number.
+pub fn is_numbered(words: usize, number: u16) -> bool
+    ensures { result ≡ (nat_le 1 number && nat_le number words) }
+{
+    1 <= number && number as usize <= words
 }

@@ -1,36 +1,47 @@
 // Spellings, and the numbers of refusals.
 use refusal::{ListFault, Refusal, Side, SpellFault};
-use script::{MorphemeClass, MorphemeSign, spell_word};
+use script::{MorphemeClass, MorphemeSign, Script, spell_word};
+use std::process::Abort;
 use std::test::Fail;
+
+// The word is spelled in these labels, and no others.
+fn check_spelled<S: Script>(rt: &impl Abort, word: &[S], labels: &[u8]) {
+    match spell_word(word) {
+        Ok(spelled) => assert!(rt; spelled.as_slice() == labels),
+        Err(_) => assert!(rt; false),
+    }
+}
 
 #[test]
 fn symbols_are_spelled(rt: HostRuntime) {
-    let mut out = [9u8; 128];
-    assert_eq!(rt; spell_word(b"ab", &mut out), Ok(2));
-    assert!(rt; out[0] == b'a' && out[1] == b'b' && out[2] == 9);
-    assert_eq!(rt; spell_word(&[258u16, 65535], &mut out), Ok(4));
-    assert!(rt; out[0] == 1 && out[1] == 2 && out[2] == 255 && out[3] == 255 && out[4] == 9);
+    check_spelled(&rt, b"ab", b"ab");
+    check_spelled(&rt, &[258u16, 65535], &[1, 2, 255, 255]);
     let noun = MorphemeSign {
         class: MorphemeClass::Noun,
         form: 258,
     };
-    assert_eq!(rt; spell_word(&[noun], &mut out), Ok(3));
-    assert!(rt; out[0] == 5 && out[1] == 1 && out[2] == 2 && out[3] == 255);
+    check_spelled(&rt, &[noun], &[5, 1, 2]);
+}
+
+// The word has no symbol or too many.
+fn check_refused(rt: &impl Abort, word: &[u16]) {
+    match spell_word(word) {
+        Ok(_) => assert!(rt; false),
+        Err(fault) => assert!(rt; fault == SpellFault::WordLength),
+    }
 }
 
 #[test]
 fn words_have_1_to_32_symbols(rt: HostRuntime) {
     let symbols = [7u16; 33];
-    let mut out = [9u8; 128];
-    assert_eq!(rt;
-        spell_word(&symbols[0..0], &mut out),
-        Err(SpellFault::WordLength)
-    );
-    assert_eq!(rt; spell_word(&symbols, &mut out), Err(SpellFault::WordLength));
-    assert!(rt; out[0] == 9 && out[127] == 9);
-    assert_eq!(rt; spell_word(&symbols[0..1], &mut out), Ok(2));
-    assert_eq!(rt; spell_word(&symbols[0..32], &mut out), Ok(64));
-    assert!(rt; out[63] == 7 && out[64] == 9);
+    check_refused(&rt, &symbols[0..0]);
+    check_refused(&rt, &symbols);
+    check_spelled(&rt, &symbols[0..1], &[0, 7]);
+    let mut labels = [0u8; 64];
+    for label in labels.iter_mut().skip(1).step_by(2) {
+        *label = 7;
+    }
+    check_spelled(&rt, &symbols[0..32], &labels);
 }
 
 #[test]

@@ -1,8 +1,8 @@
 -- What the fields of a plain list say of its roll.
 use Rattle.std.specs.Prelude.{◌≡◌, ℕ, ◌+◌, ◌-◌, ◌<◌, ◌≤◌, min, true, false, cond, not, ◌&&◌, List, [], ◌∷◌, ◌++◌, length, take, drop, is_some, Some, None, vec_items, vec_len, sum, Option, nat_le, nat_lt, slice_index, slice_index_or, slice_set, refl}
-use Rattle.std.proofs.Common.{ap, ◌∙◌, arith}
+use Rattle.std.proofs.Common.{sym, ap, ◌∙◌, arith}
 use Rattle.std.specs.Vec.{with_items}
-use Rattle.std.proofs.lemmas.List.{length-take-le, get_or-take, take_more_set, with_items_is}
+use Rattle.std.proofs.lemmas.List.{take-take, length-take-le, get_or-take, take_more_set, with_items_is}
 use Rattle.std.proofs.lemmas.List.Sums.{sum_by_push}
 use Rattle.std.proofs.lemmas.Bool.{and_parts, not-true, ltb-true, leb-true, le-leb, cond-true}
 use Rattle.output.specs.Written.{fits, written}
@@ -29,6 +29,10 @@ words_inside s = omega (arith, s.ended, s.inside, s.bytes.ok.0)
 
 pub roll_lawful : (s : PlainList) → Lawful (roll_of s)
 roll_lawful s = record { few = omega (arith, s.few, length_roll s); sized = s.sized; apart = s.apart }
+
+-- the lengths before an index are those of words
+pub front_is : (s : PlainList) (i : ℕ) → i < s.count → take i (vec_items s.lengths) ≡ take i (counted s)
+front_is s i h = sym (take-take i s.count (vec_items s.lengths) (omega arith))
 
 -- the word at an index lies inside the bytes
 pub word_inside : (s : PlainList) (i : ℕ) → i < s.count → sum (take i (counted s)) + slice_index (vec_items s.lengths) i ≤ length (vec_items s.bytes)

@@ -1,13 +1,13 @@
 // The calls of a plain list.
 ghost use Rattle.std.specs.Prelude.{◌≡◌, ◌<◌, true, [], ◌∷◌, ◌++◌, slice_index_or};
-ghost use Rattle.lexicon.specs.Rolls.{number_of, numbered};
+ghost use Rattle.lexicon.specs.Rolls.{number_of};
 ghost use Rattle.lexicon.specs.Answers.{is_new};
 ghost use Rattle.plain_list.specs.Plain.{roll_of, fits_free, room_of, Made, Appended};
 ghost use Rattle.plain_list.specs.Lists.{roll_lawful};
 
 use super::list::PlainList;
 use super::search;
-use lexicon::{GrowingList, ReadableList, has_label_size};
+use lexicon::{GrowingList, ReadableList, has_label_size, is_numbered};
 use refusal::ListFault;
 
 // A list has at most as many words as a 16-bit number counts.
@@ -47,18 +47,8 @@ impl PlainList {
     fn number_of(&self, word: &[u8]) -> Option<u16>
         ensures { result ≡ number_of (roll_of self.now) word.now }
     {
-        let lengths = self.lengths.as_slice();
-        match search::number_in(&lengths[0..self.count], self.bytes.as_slice(), word) {
-            Some(number) => Some(number as u16),
-            None => None,
-        }
-    }
-
-    // Some word has the number.
-    fn is_numbered(&self, number: u16) -> bool
-        ensures { result ≡ numbered (roll_of self.now) number }
-    {
-        1 <= number && number as usize <= self.count
+        let lengths = &self.lengths.as_slice()[0..self.count];
+        search::number_in(lengths, self.bytes.as_slice(), word).map(|number| number as u16)
     }
 
     // The word at the index.
@@ -67,7 +57,7 @@ impl PlainList {
         ensures { result.now ≡ slice_index_or (roll_of self.now) index [] }
     {
         let lengths = self.lengths.as_slice();
-        let start = search::start_of(&lengths[0..self.count], index);
+        let start = search::bytes_of(&lengths[0..index]);
         let end = start + lengths[index] as usize;
         let bytes = self.bytes.as_slice();
         &bytes[start..end]
@@ -116,7 +106,7 @@ impl ReadableList for PlainList {
     }
 
     fn spell(&self, number: u16, out: &mut [u8]) -> Result<usize, ListFault> {
-        if !self.is_numbered(number) {
+        if !is_numbered(self.count, number) {
             return Err(ListFault::UnknownWord);
         }
         let word = self.word_at(number as usize - 1);

@@ -1,15 +1,7 @@
 // Words that lie end to end: finding one, and where one starts.
-ghost use Rattle.std.specs.Prelude.{◌≡◌, ◌^◌, ◌<◌, ◌≤◌, length, take, sum};
-ghost use Rattle.std.specs.Str.{bytes_eq};
+ghost use Rattle.std.specs.Prelude.{◌≡◌, ◌^◌, ◌<◌, ◌≤◌, length, sum};
 ghost use Rattle.lexicon.specs.Rolls.{number_of};
 ghost use Rattle.plain_list.specs.Cuts.{cut};
-
-// The two spellings are the same.
-fn same(a: &[u8], b: &[u8]) -> bool
-    ensures { result ≡ bytes_eq a.now b.now }
-{
-    a == b
-}
 
 // The number of the word among the words of these lengths, or none.
 pub(super) fn number_in(lengths: &[u8], bytes: &[u8], word: &[u8]) -> Option<usize>
@@ -19,7 +11,7 @@ pub(super) fn number_in(lengths: &[u8], bytes: &[u8], word: &[u8]) -> Option<usi
     let mut at = 0usize;
     for (i, len) in lengths.iter().enumerate() {
         let end = at + *len as usize;
-        if same(&bytes[at..end], word) {
+        if &bytes[at..end] == word {
             return Some(i + 1);
         }
         at = end;
@@ -27,15 +19,10 @@ pub(super) fn number_in(lengths: &[u8], bytes: &[u8], word: &[u8]) -> Option<usi
     None
 }
 
-// Where the word at the index starts.
-pub(super) fn start_of(lengths: &[u8], index: usize) -> usize
-    requires within { index ≤ length lengths.now }
-    requires fits { sum lengths.now < 2 ^ 64 }
-    ensures { result ≡ sum (take index lengths.now) }
+// How many bytes words of these lengths take together: where the next word starts.
+pub(super) fn bytes_of(lengths: &[u8]) -> usize
+    requires { sum lengths.now < 2 ^ 64 }
+    ensures { result ≡ sum lengths.now }
 {
-    let mut at = 0usize;
-    for i in 0..index {
-        at += lengths[i] as usize;
-    }
-    at
+    lengths.iter().map(|len| *len as usize).sum()
 }

@@ -10,7 +10,7 @@ use super::list::TrieList;
 use super::spelling::{write_labels, write_path};
 use cells::Cell;
 use double_array::DoubleArray;
-use lexicon::{GrowingList, ReadableList, has_label_size};
+use lexicon::{GrowingList, ReadableList, has_label_size, is_numbered};
 use refusal::ListFault;
 use subtrie::numbers_below;
 
@@ -90,13 +90,6 @@ impl TrieList {
         }
     }
 
-    // Some word has the number.
-    fn is_numbered(&self, number: u16) -> bool
-        ensures { result ≡ numbered (roll_of self.now) number }
-    {
-        1 <= number && number as usize <= self.count
-    }
-
     // Enters a word that the list lacks with the next number, and answers that number.
     fn append(&mut self, word: &[u8]) -> Result<u16, ListFault>
         requires sized { label_sized word.now ≡ true }
@@ -134,7 +127,7 @@ impl ReadableList for TrieList {
     }
 
     fn spell(&self, number: u16, out: &mut [u8]) -> Result<usize, ListFault> {
-        if !self.is_numbered(number) {
+        if !is_numbered(self.count, number) {
             return Err(ListFault::UnknownWord);
         }
         let mut labels = [0u8; 128];

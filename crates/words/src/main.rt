@@ -7,7 +7,7 @@
 #![tactic(auto)]
 
 use cells::Cell;
-use entry::{beginning_of, enter_word, labels_held, line_text, reply_to};
+use entry::{Reply, beginning_of, enter_word, labels_held, line_text};
 use lexicon::ReadableList;
 use script::Script;
 use std::io;
@@ -44,7 +44,7 @@ fn show_below(rt: &HostRuntime, list: &TrieList, beginning: &[u8]) -> io::Result
             println!(rt; "end {count}")
         }
         Err(fault) => {
-            let reply = reply_to(Err(fault.into()));
+            let reply = Reply::from(Err(fault.into()));
             println!(rt; "{reply}")
         }
     }
@@ -55,7 +55,7 @@ fn answer(rt: &HostRuntime, list: &mut TrieList, line: &[u8]) -> io::Result<()> 
     if let Some(beginning) = beginning_of(line) {
         return show_below(rt, list, beginning);
     }
-    let reply = reply_to(enter_word(list, line));
+    let reply = Reply::from(enter_word(list, line));
     println!(rt; "{reply}")
 }
 

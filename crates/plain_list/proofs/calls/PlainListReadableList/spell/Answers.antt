@@ -1,6 +1,7 @@
-use Rattle.std.proofs.Common.{◌≡◌, true, sym, arith}
+use Rattle.std.proofs.Common.{◌≡◌, true, false, sym, ◌∙◌, arith}
+use Rattle.std.proofs.lemmas.Bool.{cond-false}
 use Rattle.lexicon.specs.Rolls.{numbered}
-use Rattle.lexicon.proofs.Numbers.{numbered_bounds}
+use Rattle.lexicon.proofs.Numbers.{numbered_bounds, numbered_by}
 use Rattle.lexicon.proofs.Spells.{put_answer, put_output, put_within}
 use Rattle.plain_list.specs.Plain.{roll_of}
 use Rattle.plain_list.specs.Lists.{length_roll}
@@ -8,14 +9,25 @@ use Rattle.plain_list.proofs.calls.PlainListReadableList.spell.Goals as goal
 
 pub word_at-word-requires : goal.word_at-word-requires
 word_at-word-requires c =
-    let bounds = numbered_bounds (roll_of c.args.self.now) c.args.number (sym c.if-not-is_numbered.ensures) in
-    omega (arith, bounds.0, bounds.1, length_roll c.args.self.now)
+    let s = c.args.self.now in
+    let bounds = numbered_bounds (roll_of s) c.args.number (sym (numbered_by (roll_of s) c.args.number s.count (length_roll s)) ∙ sym c.if-not-is_numbered.ensures) in
+    omega (arith, bounds.0, bounds.1, length_roll s)
+
+pub returns-then-not-is_numbered : goal.returns-then-not-is_numbered
+returns-then-not-is_numbered c =
+    let s = c.args.self.now in
+    let none : numbered (roll_of s) c.args.number ≡ false = sym (numbered_by (roll_of s) c.args.number s.count (length_roll s)) ∙ sym c.if-not-is_numbered.ensures in
+    record {
+      answer = λ _. sym (cond-false _ _ _ none);
+      output = λ _. sym (cond-false _ _ _ none);
+      within = tt;
+    }
 
 pub returns : goal.returns
 returns c =
     let s = c.args.self.now in
     let out = c.args.out.now in
-    let some : numbered (roll_of s) c.args.number ≡ true = sym c.if-not-is_numbered.ensures in
+    let some : numbered (roll_of s) c.args.number ≡ true = sym (numbered_by (roll_of s) c.args.number s.count (length_roll s)) ∙ sym c.if-not-is_numbered.ensures in
     let word = c.word_at-word.result.now in
     record {
       answer = λ _. put_answer (roll_of s) c.args.number out word some c.word_at-word.ensures c.put.result c.ok_or.result c.put.ensures.end c.ok_or.ensures.value;
