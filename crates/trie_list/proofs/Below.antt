@@ -1,7 +1,6 @@
 -- The numbers below a cell are those of the words that begin so.
-use Rattle.std.proofs.Common.{◌≡◌, ℕ, suc, ◌+◌, ◌-◌, ◌<◌, ◌≤◌, true, false, cond, List, [], ◌∷◌, ◌++◌, length, get_or, take, IfOk, Some, None, Ok, Err, Option, Result, sym, refl, ap, ◌∙◌, inl, inr, arith}
+use Rattle.std.proofs.Common.{◌≡◌, ℕ, suc, ◌+◌, ◌<◌, ◌≤◌, true, false, cond, List, [], ◌∷◌, ◌++◌, length, map, get_or, IfOk, Some, None, Ok, Err, Option, Result, sym, refl, ap, ◌∙◌, inl, inr, arith}
 use Rattle.std.specs.Option.{ok_or}
-use Rattle.std.proofs.lemmas.List.{take-take, take_at}
 use Rattle.std.proofs.lemmas.Bool.{cond-true, cond-false, le-leb, lt-leb}
 use Rattle.refusal.specs.declared.ListFault.{ListFault}
 use Rattle.refusal.specs.declared.ListFault.TheVariants.{OutputTooShort}
@@ -30,16 +29,13 @@ pub length_codes : (b : List ℕ) → length (codes_of b) ≡ length b
 length_codes [] = refl
 length_codes (c ∷ b) = ap suc (length_codes b)
 
-path_ends : (b : List ℕ) → path_of b ≡ codes_of b ++ 1 ∷ []
+pub codes_map : (b : List ℕ) → codes_of b ≡ map (λ c. c + 2) b
+codes_map [] = refl
+codes_map (c ∷ b) = ap (λ (z : List ℕ). (c + 2) ∷ z) (codes_map b)
+
+pub path_ends : (b : List ℕ) → path_of b ≡ codes_of b ++ 1 ∷ []
 path_ends [] = refl
 path_ends (c ∷ b) = ap (λ (z : List ℕ). (c + 2) ∷ z) (path_ends b)
-
--- the front of what was written as a path
-pub codes_slice : (b path : List ℕ) → take (length b + 1) path ≡ path_of b → take (length b - 0) path ≡ codes_of b
-codes_slice b path e =
-    let less : length b - 0 ≡ length b = omega arith in
-    ap (λ (n : ℕ). take n path) less ∙ sym (take-take (length b) (length b + 1) path (omega arith)) ∙ ap (take (length b)) (e ∙ path_ends b)
-    ∙ take_at (codes_of b) (1 ∷ []) (length b) (length_codes b)
 
 heads : (a b : ℕ) (p q : List ℕ) → a ∷ p ≡ b ∷ q → (a ≡ b) × (p ≡ q)
 heads a b p q e = (cc, cc)

@@ -1,5 +1,5 @@
 -- Laws of the paths of words.
-use Rattle.std.specs.Prelude.{◌≡◌, ℕ, zero, suc, ◌+◌, ◌-◌, ◌<◌, ◌≤◌, true, false, ◌&&◌, List, [], ◌∷◌, ◌++◌, length, take, ◌≢◌, nat_le, nat_lt, slice_index, refl}
+use Rattle.std.specs.Prelude.{◌≡◌, ℕ, zero, suc, ◌+◌, ◌-◌, ◌<◌, ◌≤◌, true, false, ◌&&◌, List, [], ◌∷◌, ◌++◌, length, map, take, ◌≢◌, nat_le, nat_lt, slice_index, refl}
 use Rattle.std.proofs.Common.{sym, ap, ◌∙◌, arith}
 use Rattle.std.proofs.lemmas.Bool.{and_parts, and_from, leb-true, le-leb, ltb-true, lt-ltb, eqb-true, both_ways}
 use Rattle.lexicon.specs.Rolls.{label_sized}
@@ -90,25 +90,9 @@ path_codes (b ∷ w) bytes =
     let low = bytes 0 in
     and_from (is_code (b + 2)) (all_codes (path_of w)) (and_from (nat_lt 0 (b + 2)) (nat_lt (b + 2) 258) (lt-ltb 0 (b + 2) (omega arith)) (lt-ltb (b + 2) 258 (omega arith))) (path_codes w (λ k. bytes (suc k)))
 
--- what was written code by code is the path
-pub path_written : (w p : List ℕ) → length w < length p → ((k : ℕ) → k < length w → slice_index p k ≡ slice_index w k + 2) → slice_index p (length w) ≡ 1 → take (length w + 1) p ≡ path_of w
-path_written w [] h codes end = absurd (omega arith)
-path_written [] (a ∷ p) h codes end = ap (λ (k : ℕ). k ∷ []) end
-path_written (b ∷ w) (a ∷ p) h codes end =
-    let next : suc (length w) + 1 ≡ suc (length w + 1) = omega arith in
-    ap (λ (n : ℕ). take n (a ∷ p)) next
-    ∙ ap (λ (k : ℕ). k ∷ take (length w + 1) p) (codes 0 (omega arith))
-    ∙ ap (λ (z : List ℕ). (b + 2) ∷ z) (path_written w p (omega arith) (λ k low. codes (suc k) (omega arith)) end)
-
--- what was written label by label is the word
-pub labels_written : (p w : List ℕ) (n : ℕ) → n + 1 ≡ length p → n ≤ length w → ((k : ℕ) → k < n → slice_index w k ≡ slice_index p k - 2) → take n w ≡ labels_of p
-labels_written [] w n e h labels = absurd (omega arith)
-labels_written (a ∷ []) w n e h labels = ap (λ (k : ℕ). take k w) (let z : n ≡ 0 = omega arith in z)
-labels_written (a ∷ b ∷ p) w zero e h labels = absurd (omega arith)
-labels_written (a ∷ b ∷ p) [] (suc n) e h labels = absurd (omega arith)
-labels_written (a ∷ b ∷ p) (c ∷ w) (suc n) e h labels =
-    ap (λ (k : ℕ). k ∷ take n w) (labels 0 (omega arith)) ∙ ap (λ (z : List ℕ). (a - 2) ∷ z) (labels_written (b ∷ p) w n (omega arith) (omega arith) (λ k low. labels (suc k) (omega arith)))
-
--- the slice that was written is the path of the word
-pub written_slice : (size : ℕ) (path word : List ℕ) → take size path ≡ path_of word → take (size - 0) path ≡ path_of word
-written_slice size path word e = ap (λ (k : ℕ). take k path) (let z : size - 0 ≡ size = omega arith in z) ∙ e
+-- the labels of a path are those of all its codes but the last
+pub labels_map : (p : List ℕ) (n : ℕ) → n + 1 ≡ length p → labels_of p ≡ map (λ a. a - 2) (take n p)
+labels_map [] n e = absurd (omega arith)
+labels_map (a ∷ []) n e = ap (λ (k : ℕ). map (λ b. b - 2) (take k (a ∷ []))) (let z : 0 ≡ n = omega arith in z)
+labels_map (a ∷ b ∷ p) zero e = absurd (omega arith)
+labels_map (a ∷ b ∷ p) (suc n) e = ap (λ (z : List ℕ). (a - 2) ∷ z) (labels_map (b ∷ p) n (omega arith))

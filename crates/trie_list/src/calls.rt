@@ -1,5 +1,5 @@
 // The calls of a trie list.
-ghost use Rattle.std.specs.Prelude.{◌≡◌, ◌≤◌, true, length, take, IfOk, None, vec_len, OnOk};
+ghost use Rattle.std.specs.Prelude.{◌≡◌, ◌≤◌, true, length, IfOk, None, vec_len, OnOk};
 ghost use Rattle.lexicon.specs.Rolls.{label_sized, number_of, numbered, word_of};
 ghost use Rattle.double_array.specs.Views.{cells_of, index_of};
 ghost use Rattle.trie_list.specs.Below.{below_of, below_answer, below_output, WordsBelow};
@@ -7,7 +7,8 @@ ghost use Rattle.trie_list.specs.Trie.{roll_of, room_of, Made, Walked, Placed, A
 ghost use Rattle.trie_list.specs.Lists.{roll_lawful};
 
 use super::list::TrieList;
-use super::spelling::{write_labels, write_path};
+use super::spelling::{codes_of, labels_of, path_of};
+use arrayvec::ArrayVec;
 use cells::Cell;
 use double_array::DoubleArray;
 use lexicon::{GrowingList, ReadableList, has_label_size, is_numbered};
@@ -57,10 +58,8 @@ impl TrieList {
         if beginning.len() > 128 {
             return Err(ListFault::WordLength);
         }
-        let mut path = [0u16; 129];
-        write_path(beginning, &mut path);
-        let codes = &path[0..beginning.len()];
-        numbers_below(&self.array, codes, out).ok_or(ListFault::OutputTooShort)
+        let codes = codes_of(beginning);
+        numbers_below(&self.array, codes.as_slice(), out).ok_or(ListFault::OutputTooShort)
     }
 
     // The number of the word, or none.
@@ -68,25 +67,21 @@ impl TrieList {
         requires { length word.now ≤ 128 }
         ensures { result ≡ number_of (roll_of self.now) word.now }
     {
-        let mut path = [0u16; 129];
-        let size = write_path(word, &mut path);
-        match self.array.number_at(&path[0..size]) {
-            Some(number) => Some(number as u16),
-            None => None,
-        }
+        let path = path_of(word);
+        self.array
+            .number_at(path.as_slice())
+            .map(|number| number as u16)
     }
 
-    // Writes the labels of the word of a number from the start of the output, and answers how many
-    // there are.
-    fn labels_of(&self, number: u16, labels: &mut [u8; 128]) -> usize
+    // The labels of the word of a number.
+    fn labels_of(&self, number: u16) -> ArrayVec<u8, 128>
         requires { numbered (roll_of self.now) number ≡ true }
-        ensures labels_after { take result labels.new ≡ word_of (roll_of self.now) number }
-        ensures upper_bound { result ≤ 128 }
+        ensures { result.items ≡ word_of (roll_of self.now) number }
     {
         let mut path = [0u16; 129];
         match self.array.path_of(number as u32, &mut path) {
-            Ok(size) => write_labels(&path[0..size], labels),
-            Err(_) => 0,
+            Ok(size) => labels_of(&path[0..size]),
+            Err(_) => ArrayVec::new(),
         }
     }
 
@@ -99,10 +94,9 @@ impl TrieList {
         if self.count >= self.index().len().min(MAX_WORDS) {
             return Err(ListFault::NoRoom);
         }
-        let mut path = [0u16; 129];
-        let size = write_path(word, &mut path);
+        let path = path_of(word);
         let number = self.count + 1;
-        self.array.enter(&path[0..size], number as u32)?;
+        self.array.enter(path.as_slice(), number as u32)?;
         self.count = number;
         Ok(number as u16)
     }
@@ -130,9 +124,8 @@ impl ReadableList for TrieList {
         if !is_numbered(self.count, number) {
             return Err(ListFault::UnknownWord);
         }
-        let mut labels = [0u8; 128];
-        let size = self.labels_of(number, &mut labels);
-        output::put(out, 0, &labels[0..size]).ok_or(ListFault::OutputTooShort)
+        let labels = self.labels_of(number);
+        output::put(out, 0, labels.as_slice()).ok_or(ListFault::OutputTooShort)
     }
 }
 

@@ -4,7 +4,6 @@ use Rattle.refusal.specs.Reports.{path_refusal}
 use Rattle.cells.specs.Placing.{Arrays}
 use Rattle.double_array.specs.Entries.{refusal}
 use Rattle.double_array.specs.Views.{cells_of, index_of}
-use Rattle.trie_list.specs.PathsLemmas.{written_slice}
 use Rattle.trie_list.specs.RollsLemmas.{grown_listed, grown_words}
 use Rattle.trie_list.specs.Lists.{listed, append_refused, refused_place, room_yes, entered_as}
 use Rattle.trie_list.proofs.list.TrieList.append.Goals as goal
@@ -15,7 +14,7 @@ returns-in_err-enter c =
     let w = c.args.word.now in
     let m = c.in_err-enter.ensures in
     let e = c.in_err-enter.field-0.0 in
-    let slice = written_slice c.write_path-size.result c.write_path-size.new.path w c.write_path-size.ensures.path in
+    let slice = c.as_slice.ensures.value ∙ c.path_of-path.ensures in
     let long = ap length c.index.ensures in
     let left : s.count < min (length (index_of s.array)) 65535 = omega (arith, c.min.ensures, long, c.if-self-min.false) in
     let said = refused_place s w c.requires.sized c.requires.absent (λ k. omega (arith, c.type_inv.word k)) left e
@@ -29,7 +28,7 @@ invariant_of-self-2 c =
     let w = c.args.word.now in
     let d = c.enter.new.self in
     let xs : Arrays = record { cells = cells_of d; index = index_of d } in
-    let slice = written_slice c.write_path-size.result c.write_path-size.new.path w c.write_path-size.ensures.path in
+    let slice = c.as_slice.ensures.value ∙ c.path_of-path.ensures in
     let long = ap length c.index.ensures in
     let left : s.count < min (length (index_of s.array)) 65535 = omega (arith, c.min.ensures, long, c.if-self-min.false) in
     let did = entered_as s w c.requires.sized c.requires.absent (λ k. omega (arith, c.type_inv.word k)) left _ xs slice c.in_ok-enter.ensures.cells.1 in
@@ -42,7 +41,7 @@ returns c =
     let w = c.args.word.now in
     let d = c.enter.new.self in
     let xs : Arrays = record { cells = cells_of d; index = index_of d } in
-    let slice = written_slice c.write_path-size.result c.write_path-size.new.path w c.write_path-size.ensures.path in
+    let slice = c.as_slice.ensures.value ∙ c.path_of-path.ensures in
     let long = ap length c.index.ensures in
     let left : s.count < min (length (index_of s.array)) 65535 = omega (arith, c.min.ensures, long, c.if-self-min.false) in
     let did = entered_as s w c.requires.sized c.requires.absent (λ k. omega (arith, c.type_inv.word k)) left _ xs slice c.in_ok-enter.ensures.cells.1 in (

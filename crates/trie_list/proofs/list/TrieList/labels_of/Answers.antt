@@ -3,10 +3,8 @@ use Rattle.std.proofs.lemmas.List.{take_at}
 use Rattle.cells.specs.Cells.{all_codes}
 use Rattle.cells.proofs.Basics.{no_some}
 use Rattle.double_array.specs.Views.{cells_of, index_of}
-use Rattle.lexicon.proofs.Numbers.{label_bounds}
 use Rattle.trie_list.specs.Paths.{labels_of, word_path}
 use Rattle.trie_list.specs.Rolls.{path_at}
-use Rattle.trie_list.specs.PathsLemmas.{word_path_parts}
 use Rattle.trie_list.specs.Lists.{path_words, path_all_codes, path_known, word_labels}
 use Rattle.trie_list.proofs.list.TrieList.labels_of.Goals as goal
 
@@ -14,8 +12,8 @@ use Rattle.trie_list.proofs.list.TrieList.labels_of.Goals as goal
 written_path : (size : ℕ) (path out after : List ℕ) → size ≡ length path → after ≡ path ++ drop size out → take (size - 0) after ≡ path
 written_path size path out after long e = ap (take (size - 0)) e ∙ take_at path (drop size out) (size - 0) (let z : length path ≡ size - 0 = omega arith in z)
 
-pub write_labels-requires : goal.write_labels-requires
-write_labels-requires c =
+pub labels_of-requires : goal.labels_of-requires
+labels_of-requires c =
     let s = c.args.self.now in
     let m = c.in-Ok.ensures.path in
     let same = written_path c.in-Ok.size (path_at (cells_of s.array) (index_of s.array) (c.args.number - 1)) _ c.path_of.new.out m.1 m.2 in
@@ -30,10 +28,7 @@ returns-in-Ok c =
     let p = path_at (cells_of s.array) (index_of s.array) (c.args.number - 1) in
     let m = c.in-Ok.ensures.path in
     let same = written_path c.in-Ok.size p _ c.path_of.new.out m.1 m.2 in
-    let size = label_bounds (labels_of p) (word_path_parts p (path_words s c.args.number c.requires)).1 in record {
-      labels_after = c.write_labels.ensures.labels ∙ ap labels_of same ∙ word_labels s c.args.number c.requires;
-      upper_bound = omega (arith, c.write_labels.ensures.size, ap (λ (z : List ℕ). length (labels_of z)) same, size.1);
-    }
+    c.labels_of.ensures ∙ ap labels_of same ∙ word_labels s c.args.number c.requires
 
 pub returns-in-Err : goal.returns-in-Err
 returns-in-Err c = absurd (no_some c.in-Err.field-0 (sym (path_known c.args.self.now c.args.number c.requires) ∙ c.in-Err.ensures.path.0))

@@ -1,11 +1,11 @@
-use Rattle.std.proofs.Common.{◌≡◌, ℕ, ◌≤◌, true, leb, List, length, take, IfOk, Result, sym, ap, ◌∙◌, subst}
+use Rattle.std.proofs.Common.{◌≡◌, ℕ, ◌≤◌, true, leb, List, length, IfOk, Result, sym, ◌∙◌, subst}
 use Rattle.refusal.specs.declared.ListFault.{ListFault}
 use Rattle.std.proofs.lemmas.Bool.{cond-true, le-leb}
 use Rattle.double_array.specs.Views.{cells_of, index_of}
 use Rattle.subtrie.specs.Below.{Filled, numbers_from}
 use Rattle.subtrie.specs.Laws.{Members, Ordered}
 use Rattle.trie_list.specs.Below.{below_of}
-use Rattle.trie_list.proofs.Below.{codes_slice, words_below, told, made_always}
+use Rattle.trie_list.proofs.Below.{words_below, told, made_always}
 use Rattle.trie_list.proofs.list.TrieList.words_below.Goals as goal
 
 pub returns : goal.returns
@@ -15,9 +15,8 @@ returns c =
     let out = c.args.out.now in
     let cs = cells_of s.array in
     let is = index_of s.array in
-    let path = c.write_path.new.path in
     let m = c.numbers_below.ensures in
-    let slice = codes_slice b path (ap (λ (n : ℕ). take n path) (sym c.write_path.ensures.size) ∙ c.write_path.ensures.path) in
+    let slice = c.as_slice.ensures.value ∙ c.codes_of-codes.ensures in
     let fit : leb (length b) 128 ≡ true = le-leb (length b) 128 c.if-beginning-gt128.false in
     let all = told (below_of s b) out c.numbers_below.result c.numbers_below.new.out
     (subst (λ (z : List ℕ). Filled (numbers_from cs z) out c.numbers_below.result c.numbers_below.new.out) slice m.output) in

@@ -1,0 +1,34 @@
+use Rattle.std.proofs.Common.{◌≡◌, true, false, sym, ◌∙◌}
+use Rattle.std.proofs.lemmas.Bool.{cond-false}
+use Rattle.lexicon.specs.Rolls.{numbered}
+use Rattle.lexicon.proofs.Numbers.{numbered_by}
+use Rattle.lexicon.proofs.Spells.{put_answer, put_output, put_within}
+use Rattle.trie_list.specs.Trie.{roll_of}
+use Rattle.trie_list.specs.Lists.{length_roll}
+use Rattle.trie_list.proofs.calls.TrieListReadableList.spell.Goals as goal
+
+pub labels_of-labels-requires : goal.labels_of-labels-requires
+labels_of-labels-requires c = let s = c.args.self.now in sym (numbered_by (roll_of s) c.args.number s.count (length_roll s)) ∙ sym c.if-not-is_numbered.ensures
+
+pub returns-then-not-is_numbered : goal.returns-then-not-is_numbered
+returns-then-not-is_numbered c =
+    let s = c.args.self.now in
+    let none : numbered (roll_of s) c.args.number ≡ false = sym (numbered_by (roll_of s) c.args.number s.count (length_roll s)) ∙ sym c.if-not-is_numbered.ensures in
+    record {
+      answer = λ _. sym (cond-false _ _ _ none);
+      output = λ _. sym (cond-false _ _ _ none);
+      within = tt;
+    }
+
+pub returns : goal.returns
+returns c =
+    let s = c.args.self.now in
+    let out = c.args.out.now in
+    let some : numbered (roll_of s) c.args.number ≡ true = sym (numbered_by (roll_of s) c.args.number s.count (length_roll s)) ∙ sym c.if-not-is_numbered.ensures in
+    let word = c.as_slice.result.now in
+    let same = c.as_slice.ensures.value ∙ c.labels_of-labels.ensures in
+    record {
+      answer = λ _. put_answer (roll_of s) c.args.number out word some same c.put.result c.ok_or.result c.put.ensures.end c.ok_or.ensures.value;
+      output = λ _. put_output (roll_of s) c.args.number out word some same c.put.new.out c.put.ensures.after;
+      within = put_within out word c.put.result c.ok_or.result c.put.ensures.end c.ok_or.ensures.value;
+    }
