@@ -44,14 +44,12 @@ impl LinkTable {
             return Err(LinkFault::NumbersHeld);
         };
         let number = place as u32 + 1;
-        match self.array.enter(&path, number) {
-            Err(_) => Err(LinkFault::NoPlace),
-            Ok(()) => {
-                self.count += 1;
-                self.cursor = place + 1;
-                Ok(number)
-            }
-        }
+        let Ok(()) = self.array.enter(&path, number) else {
+            return Err(LinkFault::NoPlace);
+        };
+        self.count += 1;
+        self.cursor = place + 1;
+        Ok(number)
     }
 
     // Takes a triple out and answers the number that it had. Refused where it is not present.
@@ -59,12 +57,10 @@ impl LinkTable {
         ensures { Takes self.old triple result self.new }
     {
         let path = write_code(triple);
-        match self.array.remove(&path) {
-            None => Err(LinkFault::TripleAbsent),
-            Some(number) => {
-                self.count -= 1;
-                Ok(number)
-            }
-        }
+        let Some(number) = self.array.remove(&path) else {
+            return Err(LinkFault::TripleAbsent);
+        };
+        self.count -= 1;
+        Ok(number)
     }
 }

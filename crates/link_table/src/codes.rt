@@ -11,13 +11,9 @@ pub(super) fn write_code(triple: Triple) -> [u16; 5]
     ensures path { result ≡ path_of_triple triple }
     ensures codes { all_codes (path_of_triple triple) ≡ true }
 {
-    [
-        triple.x / 256 + 2,
-        triple.x % 256 + 2,
-        triple.relation as u16 + 2,
-        triple.y / 256 + 2,
-        triple.y % 256 + 2,
-    ]
+    let [x_upper, x_lower] = triple.x.to_be_bytes();
+    let [y_upper, y_lower] = triple.y.to_be_bytes();
+    [x_upper, x_lower, triple.relation, y_upper, y_lower].map(|label| label as u16 + 2)
 }
 
 // The triple of a path.

@@ -25,10 +25,10 @@ impl LinkTable {
         ensures laws { Lawful self.now }
     {
         let mut path = [0u16; 5];
-        match self.array.path_of(number, &mut path) {
-            Ok(_) => Some(read_code(&path)),
-            Err(_) => None,
-        }
+        let Ok(_) = self.array.path_of(number, &mut path) else {
+            return None;
+        };
+        Some(read_code(&path))
     }
 
     // How many triples are present.

@@ -18,13 +18,13 @@ returns-in_default c =
     (put_full s t none (subst (λ (l : List ℕ). (k : ℕ) → k < length l → 0 ≤ k → 0 < get_or l k 0) c.index.ensures c.in_default.ensures), refl)
 
 pub invariant_of-self : goal.invariant_of-self
-invariant_of-self c = same_fields c.args.self.now c.enter.new.self c.in-Err.ensures.same
+invariant_of-self c = same_fields c.args.self.now c.enter.new.self c.in_default-enter.ensures.same
 
 pub overflow_add-self : goal.overflow_add-self
 overflow_add-self c = omega (arith, count_few c.args.self.now)
 
-pub invariant_of-self-in-Ok : goal.invariant_of-self-in-Ok
-invariant_of-self-in-Ok c =
+pub invariant_of-self-2 : goal.invariant_of-self-2
+invariant_of-self-2 c =
     let s = c.args.self.now in
     let t = c.args.triple in
     let cs = cells_of s.array in
@@ -41,8 +41,8 @@ invariant_of-self-in-Ok c =
     let added = subst (λ (p : List ℕ). Added cs p (place + 1) (cells_of d)) e m.paths in
     put_fields s t place codes none low vacant d m.sizes.1 added
 
-pub returns-in-Err : goal.returns-in-Err
-returns-in-Err c =
+pub returns-in_default-enter : goal.returns-in_default-enter
+returns-in_default-enter c =
     let s = c.args.self.now in
     let t = c.args.triple in
     let cs = cells_of s.array in
@@ -55,13 +55,13 @@ returns-in-Err c =
     let vacant : get_or is place 0 ≡ 0 = ap (λ (l : List ℕ). get_or l place 0) (sym c.index.ensures) ∙ spot.1 in
     let codes = c.write_code-path.ensures.codes in
     let some : all_held s ≡ false = ne_eqb (length (numbers s)) (limit s) (λ full. c.if-self-limit.false (s.counted ∙ full ∙ sym c.limit.ensures)) in
-    let m = c.in-Err.ensures in
+    let m = c.in_default-enter.ensures in
     let d = c.enter.new.self in
-    let did = subst (λ (p : List ℕ). Entry cs is p (place + 1) (Err c.in-Err.field-0) (cells_of d) (index_of d)) e m.cells in
-    (put_refused s t place codes none low vacant some c.in-Err.field-0 did.0, same_table _ s m.same refl refl)
+    let did = subst (λ (p : List ℕ). Entry cs is p (place + 1) (Err c.in_default-enter.field-0) (cells_of d) (index_of d)) e m.cells in
+    (put_refused s t place codes none low vacant some c.in_default-enter.field-0 did.0, same_table _ s m.same refl refl)
 
-pub returns-in-Ok : goal.returns-in-Ok
-returns-in-Ok c =
+pub returns : goal.returns
+returns c =
     let s = c.args.self.now in
     let t = c.args.triple in
     let cs = cells_of s.array in

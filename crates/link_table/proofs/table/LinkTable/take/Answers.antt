@@ -15,8 +15,8 @@ overflow_sub-self c =
     let removed = subst (λ (p : List ℕ). Removed (cells_of s.array) p (cells_of d)) e m.paths in
     omega (arith, s.counted, take_held s c.args.triple c.in-Some.number did.0 d m.sizes.1 removed)
 
-pub invariant_of-self-in-Some : goal.invariant_of-self-in-Some
-invariant_of-self-in-Some c =
+pub invariant_of-self-2 : goal.invariant_of-self-2
+invariant_of-self-2 c =
     let s = c.args.self.now in
     let d = c.remove.new.self in
     let m = c.in-Some.ensures in
@@ -25,14 +25,14 @@ invariant_of-self-in-Some c =
     let removed = subst (λ (p : List ℕ). Removed (cells_of s.array) p (cells_of d)) e m.paths in
     take_fields s c.args.triple c.in-Some.number did.0 d m.sizes.1 removed
 
-pub returns-in-None : goal.returns-in-None
-returns-in-None c =
+pub returns-in_default : goal.returns-in_default
+returns-in_default c =
     let s = c.args.self.now in
-    let m = c.in-None.ensures in
+    let m = c.in_default.ensures in
     (ap (number_at (cells_of s.array)) (sym c.write_code-path.ensures.path) ∙ m.cells.0, refl, same_table _ s m.same refl refl)
 
-pub returns-in-Some : goal.returns-in-Some
-returns-in-Some c =
+pub returns : goal.returns
+returns c =
     let s = c.args.self.now in
     let d = c.remove.new.self in
     let m = c.in-Some.ensures in

@@ -17,8 +17,8 @@ read_code-requires c =
     let same = path_written s u known c.in-Ok.field-0 _ c.path_of.new.out refl m.1 m.2 in
     record { five = ap is_triple_path same ∙ path_five s u known; codes = ap all_codes same ∙ path_codes s u known }
 
-pub returns-in-Ok : goal.returns-in-Ok
-returns-in-Ok c =
+pub returns : goal.returns
+returns c =
     let s = c.args.self.now in
     let u = c.args.number in
     let m = c.in-Ok.ensures.path in
@@ -30,11 +30,11 @@ returns-in-Ok c =
       laws = lawful s;
     }
 
-pub returns-in-Err : goal.returns-in-Err
-returns-in-Err c =
+pub returns-in_default : goal.returns-in_default
+returns-in_default c =
     let s = c.args.self.now in
     let u = c.args.number in
-    let unknown = unknown_at s u c.in-Err.field-0 c.in-Err.ensures.path.0 in
+    let unknown = unknown_at s u c.in_default.field-0 c.in_default.ensures.path.0 in
     record {
       triple = sym (cond-false (is_known (index_of s.array) u) (Some (triple_of (path_of (cells_of s.array) (index_of s.array) u))) None unknown);
       laws = lawful s;
