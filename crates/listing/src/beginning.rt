@@ -1,10 +1,18 @@
-// Whether a beginning of a code leads anywhere.
-ghost use Rattle.std.specs.Prelude.{◌≡◌};
+// Beginnings of codes, and whether they lead anywhere.
+ghost use Rattle.std.specs.Prelude.{◌≡◌, ◌+◌, ◌/◌, ◌%◌, [], ◌∷◌};
 ghost use Rattle.double_array.specs.Views.{cells_of};
 ghost use Rattle.listing.specs.Parts.{leads_on};
 
 use double_array::cell_at;
 use link_table::LinkTable;
+
+// The codes with which the paths of the triples of x by the relation begin.
+pub(super) fn beginning(x: u16, relation: u8) -> [u16; 3]
+    ensures { result ≡ (x / 256 + 2) ∷ (x % 256 + 2) ∷ (relation + 2) ∷ [] }
+{
+    let [upper, lower] = x.to_be_bytes();
+    [upper, lower, relation].map(|label| label as u16 + 2)
+}
 
 // Whether the codes lead to a cell. Where they do not, no present triple's path begins with them.
 pub(super) fn leads(table: &LinkTable, codes: &[u16]) -> bool

@@ -5,7 +5,7 @@ ghost use Rattle.std.specs.Prelude.{◌+◌, ◌*◌, ◌^◌, ◌<◌, ◌≤�
 ghost use Rattle.listing.specs.Parts.{rows_from, Placed};
 ghost use Rattle.listing.specs.Rows.{rows_by, rows_to, rows_of, Filled};
 
-use super::beginning::leads;
+use super::beginning::{beginning, leads};
 use super::row::LinkRow;
 use link_table::{LinkTable, Triple};
 
@@ -57,8 +57,8 @@ pub fn list_upper(
     ensures few { result ≤ 256 }
 {
     let upper = upper as u16;
-    let codes = [x / 256 + 2, x % 256 + 2, relation as u16 + 2, upper + 2];
-    if leads(table, &codes) {
+    let [first, second, third] = beginning(x, relation);
+    if leads(table, &[first, second, third, upper + 2]) {
         list_block(table, x, relation, upper, out, 0)
     } else {
         0
@@ -71,9 +71,7 @@ fn list_relation(table: &LinkTable, x: u16, relation: u8, out: &mut [LinkRow], a
     requires { at + 65536 < 2 ^ 63 }
     ensures { Placed out.old at (rows_by table.now x relation) result out.new }
 {
-    let first = x / 256 + 2;
-    let second = x % 256 + 2;
-    let third = relation as u16 + 2;
+    let [first, second, third] = beginning(x, relation);
     if !leads(table, &[first, second, third]) {
         return at;
     }

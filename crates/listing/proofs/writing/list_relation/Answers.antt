@@ -1,4 +1,6 @@
-use Rattle.std.proofs.Common.{◌*◌, refl, arith}
+use Rattle.std.proofs.Common.{◌≡◌, ◌+◌, ◌*◌, false, [], ◌∷◌, get_or, refl, subst, arith}
+use Rattle.double_array.specs.Views.{cells_of}
+use Rattle.listing.specs.Parts.{leads_on}
 use Rattle.listing.specs.Rows.{rows_below}
 use Rattle.listing.specs.Parts.{rows_from}
 use Rattle.listing.proofs.Absent.{relation_absent, block_absent}
@@ -9,7 +11,7 @@ use Rattle.listing.proofs.writing.list_relation.Goals.{then-leads, else-leads}
 
 pub returns-then-not-leads : goal.returns-then-not-leads
 returns-then-not-leads c =
-    placed_none c.args.out.now c.args.at _ _ _ (relation_absent c.args.table.now c.args.x c.args.relation c.if-not-leads.ensures 65536) refl refl
+    placed_none c.args.out.now c.args.at _ _ _ (relation_absent c.args.table.now c.args.x c.args.relation (subst (λ b. false ≡ leads_on (cells_of c.args.table.now.array) (get_or b 0 0 ∷ get_or b 1 0 ∷ get_or b 2 0 ∷ [])) c.beginning.ensures c.if-not-leads.ensures) 65536) refl refl
 
 pub loop-upper-init : goal.loop-upper-init
 loop-upper-init c = placed_none c.args.out.now c.args.at _ _ _ (below_none c.args.table.now c.args.x c.args.relation) refl refl
@@ -34,5 +36,5 @@ loop-upper-preserved c =
     placed_more c.args.out.now c.args.at before block _ l.next m.next l.out m.out (below_next t x k l.upper) l.invariant
     (elim m.branch [
       | then-leads w ↦ placed_as l.out l.next block block _ _ _ _ refl w.next-is w.out-is w.list_block-next.ensures
-      | else-leads w ↦ placed_none l.out l.next block _ _ (block_absent t x k l.upper w.if-leads.ensures) w.next-is w.out-is
+      | else-leads w ↦ placed_none l.out l.next block _ _ (block_absent t x k l.upper (subst (λ b. false ≡ leads_on (cells_of t.array) (get_or b 0 0 ∷ get_or b 1 0 ∷ get_or b 2 0 ∷ (l.upper + 2) ∷ [])) c.beginning.ensures w.if-leads.ensures)) w.next-is w.out-is
     ])
