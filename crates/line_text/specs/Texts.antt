@@ -1,10 +1,9 @@
 -- The text of each answer; byte 9 is a tab and byte 10 a line feed.
-use Rattle.std.specs.Prelude.{◌≡◌, ℕ, ◌+◌, List, [], ◌∷◌, ◌++◌, length, take, Ok, Err, codes, decimal, Result}
+use Rattle.std.specs.Prelude.{ℕ, List, [], ◌∷◌, ◌++◌, length, take, Ok, Err, codes, decimal, Result}
 use Rattle.std.specs.List.{flat_map}
 use Rattle.refusal.specs.declared.Refusal.{Refusal}
 use Rattle.refusal.specs.declared.Report.{Report}
 use Rattle.refusal.specs.Reports.{report_of, layer_number, side_number}
-use Rattle.output.specs.Written.{written}
 use Rattle.line_text.specs.declared.rows.LineRow.{LineRow}
 use Rattle.line_text.specs.declared.rows.LineRows.{LineRows}
 use Rattle.line_text.specs.declared.LineAnswer.{LineAnswer}
@@ -46,8 +45,3 @@ done_text (Share share) = number_text share 10
 abbrev pub answer_text : Result LineAnswer Refusal → List ℕ
 answer_text (Ok answer) = done_text answer
 answer_text (Err refusal) = report_line (report_of refusal)
-
--- a text was written from `at` on: it ends at `end`, and `after` is what the output holds
-pub record Wrote (out : List ℕ) (at : ℕ) (text : List ℕ) (end : ℕ) (after : List ℕ) : Type 0 where
-  pub ends : end ≡ at + length text
-  pub holds : after ≡ written out at text

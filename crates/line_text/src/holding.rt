@@ -1,5 +1,5 @@
 // Rows as they are taken and held.
-ghost use Rattle.std.specs.Prelude.{◌≡◌, ◌≤◌, [], ◌∷◌, ◌++◌, length, if◌then◌else◌, nat_lt};
+ghost use Rattle.std.specs.Prelude.{◌≡◌, ◌≤◌, [], ◌∷◌, ◌++◌, length, if◌then◌else◌, Ok, Err, nat_lt};
 ghost use Rattle.line_text.specs.Texts.{rows_in};
 
 use super::rows::{LineRow, LineRows};
@@ -12,29 +12,24 @@ impl LineRows {
     pub fn new() -> LineRows
         ensures { rows_in result ≡ [] }
     {
-        let none = LineRow {
-            relation: 0,
-            y: 0,
-            count: 0,
-        };
         LineRows {
-            rows: [none; 100],
+            rows: [LineRow::default(); 100],
             count: 0,
         }
     }
 
-    // Takes a row after those that are held, and answers whether there was a place for it; where
-    // there was none the rows stay.
-    pub fn push(&mut self, row: LineRow) -> bool
-        ensures room { result ≡ nat_lt (length (rows_in self.old)) 100 }
+    // Takes a row after those that are held, or gives it back where there is no place for it; the
+    // rows then stay.
+    pub fn push(&mut self, row: LineRow) -> Result<(), LineRow>
+        ensures room { result ≡ (if nat_lt (length (rows_in self.old)) 100 then Ok tt else Err row) }
         ensures after { rows_in self.new ≡ (if nat_lt (length (rows_in self.old)) 100 then rows_in self.old ++ row ∷ [] else rows_in self.old) }
     {
         if self.count >= ROW_PLACES {
-            return false;
+            return Err(row);
         }
         self.rows[self.count] = row;
         self.count += 1;
-        true
+        Ok(())
     }
 
     // The rows that are held, in their order.

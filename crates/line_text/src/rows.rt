@@ -2,13 +2,14 @@
 ghost use Rattle.std.specs.Prelude.{◌≡◌, ◌≤◌, length};
 
 // A relation, the number of a second word, and a count.
-#[derive(Clone, Copy, PartialEq, Eq, Debug)]
+#[derive(Clone, Copy, Default, PartialEq, Eq, Debug)]
 pub struct LineRow {
     pub relation: u8,
     pub y: u16,
     pub count: u32,
 }
 
+// An array with a length beside it, since a vector of the library is not `Copy`, as an answer is.
 #[derive(Clone, Copy)]
 pub struct LineRows {
     pub(super) rows: [LineRow; 100],

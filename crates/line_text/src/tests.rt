@@ -59,8 +59,8 @@ fn listings(rt: HostRuntime) -> Result<(), Fail> {
         y: 65535,
         count: 4_294_967_295,
     };
-    assert!(rt; rows.push(first));
-    assert!(rt; rows.push(second));
+    assert!(rt; rows.push(first).is_ok());
+    assert!(rt; rows.push(second).is_ok());
     check_text(
         &rt,
         &Ok(LineAnswer::Listing(rows)),
@@ -77,9 +77,9 @@ fn a_full_listing(rt: HostRuntime) {
     };
     let mut rows = LineRows::new();
     for _ in 0..100 {
-        assert!(rt; rows.push(row));
+        assert!(rt; rows.push(row).is_ok());
     }
-    assert!(rt; !rows.push(row));
+    assert!(rt; rows.push(row) == Err(row));
     let mut out = [b'#'; 4096];
     assert_eq!(rt;
         write_answer(&Ok(LineAnswer::Listing(rows)), &mut out),

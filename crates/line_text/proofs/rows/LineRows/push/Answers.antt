@@ -9,11 +9,11 @@ returns-then-self-ge-ROW_PLACES c =
     let s = c.args.self.now in
     let long : length (rows_in s) ≡ s.count = length-take-le s.count s.rows (omega (arith, s.few, s.places)) in
     let full : ltb (length (rows_in s)) 100 ≡ false = le-ltb (length (rows_in s)) 100 (omega arith) in
-    record { room = sym full; after = sym (cond-false _ _ _ full) }
+    record { room = sym (cond-false _ _ _ full); after = sym (cond-false _ _ _ full) }
 
 pub returns : goal.returns
 returns c =
     let s = c.args.self.now in
     let long : length (rows_in s) ≡ s.count = length-take-le s.count s.rows (omega (arith, s.few, s.places)) in
     let free : ltb (length (rows_in s)) 100 ≡ true = lt-ltb (length (rows_in s)) 100 (omega arith) in
-    record { room = sym free; after = take_more_set s.rows s.count c.args.row (omega arith) ∙ sym (cond-true _ _ _ free) }
+    record { room = sym (cond-true _ _ _ free); after = take_more_set s.rows s.count c.args.row (omega arith) ∙ sym (cond-true _ _ _ free) }
