@@ -13,7 +13,7 @@ ghost use Rattle.listing.specs.Rows.{rows_of, Filled, Members, Rising};
 
 use link_table::LinkTable;
 pub use row::LinkRow;
-use writing::list_rows;
+use writing::WordLinks;
 pub use writing::list_upper;
 
 // Writes the relation, the second word's number and the link number of every present triple of the
@@ -25,10 +25,10 @@ pub fn list_links(table: &LinkTable, x: u16, relation: u8, out: &mut [LinkRow]) 
     ensures members { Members table.now x relation (rows_of table.now x relation) }
     ensures order { Rising (rows_of table.now x relation) }
 {
-    let mut nowhere: [LinkRow; 0] = [];
-    let count = list_rows(table, x, relation, &mut nowhere);
+    let links = WordLinks { table, x };
+    let count = links.list_rows(relation, &mut []);
     if count > out.len() {
         return None;
     }
-    Some(list_rows(table, x, relation, out))
+    Some(links.list_rows(relation, out))
 }

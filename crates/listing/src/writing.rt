@@ -20,28 +20,74 @@ fn place_row(out: &mut [LinkRow], at: usize, line: LinkRow) -> usize
     at + 1
 }
 
-// Writes the rows of x by the relation whose second word's number has this upper byte from `at` on,
-// and answers where they end.
-fn list_block(
-    table: &LinkTable,
-    x: u16,
-    relation: u8,
-    upper: u16,
-    out: &mut [LinkRow],
-    at: usize,
-) -> usize
-    requires byte { upper < 256 }
-    requires room { at + 256 < 2 ^ 63 }
-    ensures { Placed out.old at (rows_from table.now x relation (256 * upper) 256) result out.new }
-{
-    let mut next = at;
-    for lower in 0..256 {
-        let y = 256 * upper + lower;
-        if let Some(link) = table.number_of(Triple { x, relation, y }) {
-            next = place_row(out, next, LinkRow { relation, y, link });
+// The links of one word, as they are walked: the table, and the word's number.
+#[derive(Clone, Copy)]
+pub(super) struct WordLinks<'a> {
+    pub(super) table: &'a LinkTable,
+    pub(super) x: u16,
+}
+
+impl<'a> WordLinks<'a> {
+    // Writes the rows by the relation whose second word's number has this upper byte from `at` on,
+    // and answers where they end.
+    fn list_block(&self, relation: u8, upper: u16, out: &mut [LinkRow], at: usize) -> usize
+        requires byte { upper < 256 }
+        requires room { at + 256 < 2 ^ 63 }
+        ensures { Placed out.old at (rows_from self.now.table.now self.now.x relation (256 * upper) 256) result out.new }
+    {
+        let x = self.x;
+        let mut next = at;
+        for lower in 0..256 {
+            let y = 256 * upper + lower;
+            if let Some(link) = self.table.number_of(Triple { x, relation, y }) {
+                next = place_row(out, next, LinkRow { relation, y, link });
+            }
+        }
+        next
+    }
+
+    // Writes the rows by the relation from `at` on, and answers where they end. A beginning that leads
+    // to no cell is passed over.
+    fn list_relation(&self, relation: u8, out: &mut [LinkRow], at: usize) -> usize
+        requires { at + 65536 < 2 ^ 63 }
+        ensures { Placed out.old at (rows_by self.now.table.now self.now.x relation) result out.new }
+    {
+        let [first, second, third] = beginning(self.x, relation);
+        if !leads(self.table, &[first, second, third]) {
+            return at;
+        }
+        let mut next = at;
+        for upper in 0..256 {
+            if leads(self.table, &[first, second, third, upper + 2]) {
+                next = self.list_block(relation, upper, out, next);
+            }
+        }
+        next
+    }
+
+    // Writes the rows by the relations 1 to 255 from the start of the output, and answers where they
+    // end.
+    fn list_all(&self, out: &mut [LinkRow]) -> usize
+        ensures { Placed out.old 0 (rows_to self.now.table.now self.now.x 255) result out.new }
+    {
+        let mut next = 0;
+        for before in 0..255 {
+            next = self.list_relation(before + 1, out, next);
+        }
+        next
+    }
+
+    // Writes the rows by the relation, 0 for all, from the start of the output, and answers where they
+    // end.
+    pub(super) fn list_rows(&self, relation: u8, out: &mut [LinkRow]) -> usize
+        ensures { Placed out.old 0 (rows_of self.now.table.now self.now.x relation) result out.new }
+    {
+        if relation == 0 {
+            self.list_all(out)
+        } else {
+            self.list_relation(relation, out, 0)
         }
     }
-    next
 }
 
 // Writes the rows of x by the relation whose second word's number has this upper byte into `out` from
@@ -59,51 +105,8 @@ pub fn list_upper(
     let upper = upper as u16;
     let [first, second, third] = beginning(x, relation);
     if leads(table, &[first, second, third, upper + 2]) {
-        list_block(table, x, relation, upper, out, 0)
+        WordLinks { table, x }.list_block(relation, upper, out, 0)
     } else {
         0
-    }
-}
-
-// Writes the rows of x by the relation from `at` on, and answers where they end. A beginning that
-// leads to no cell is passed over.
-fn list_relation(table: &LinkTable, x: u16, relation: u8, out: &mut [LinkRow], at: usize) -> usize
-    requires { at + 65536 < 2 ^ 63 }
-    ensures { Placed out.old at (rows_by table.now x relation) result out.new }
-{
-    let [first, second, third] = beginning(x, relation);
-    if !leads(table, &[first, second, third]) {
-        return at;
-    }
-    let mut next = at;
-    for upper in 0..256 {
-        if leads(table, &[first, second, third, upper + 2]) {
-            next = list_block(table, x, relation, upper, out, next);
-        }
-    }
-    next
-}
-
-// Writes the rows of x by the relations 1 to 255 from the start of the output, and answers where
-// they end.
-fn list_all(table: &LinkTable, x: u16, out: &mut [LinkRow]) -> usize
-    ensures { Placed out.old 0 (rows_to table.now x 255) result out.new }
-{
-    let mut next = 0;
-    for before in 0..255 {
-        next = list_relation(table, x, before + 1, out, next);
-    }
-    next
-}
-
-// Writes the rows of x by the relation, 0 for all, from the start of the output, and answers where
-// they end.
-pub(super) fn list_rows(table: &LinkTable, x: u16, relation: u8, out: &mut [LinkRow]) -> usize
-    ensures { Placed out.old 0 (rows_of table.now x relation) result out.new }
-{
-    if relation == 0 {
-        list_all(table, x, out)
-    } else {
-        list_relation(table, x, relation, out, 0)
     }
 }

@@ -4,21 +4,21 @@ use Rattle.listing.specs.Rows.{row}
 use Rattle.listing.specs.Parts.{rows_from}
 use Rattle.listing.proofs.Parts.{from_none, from_more, from_few}
 use Rattle.listing.proofs.Places.{placed_none, placed_as, placed_more}
-use Rattle.listing.proofs.writing.list_block.Goals as goal
-use Rattle.listing.proofs.writing.list_block.Goals.{in-Some, in_default}
+use Rattle.listing.proofs.writing.WordLinks.list_block.Goals as goal
+use Rattle.listing.proofs.writing.WordLinks.list_block.Goals.{in-Some, in_default}
 
 pub loop-lower-init : goal.loop-lower-init
-loop-lower-init c = placed_none c.args.out.now c.args.at _ _ _ (from_none c.args.table.now c.args.x c.args.relation (256 * c.args.upper)) refl refl
+loop-lower-init c = placed_none c.args.out.now c.args.at _ _ _ (from_none c.args.self.now.table.now c.args.self.now.x c.args.relation (256 * c.args.upper)) refl refl
 
 pub place_row-next-requires : goal.place_row-next-requires
 place_row-next-requires c =
     let l = c.loop-lower in
-    omega (arith, l.invariant.ends, c.requires.room, c.loop-lower-test.true, from_few c.args.table.now c.args.x c.args.relation (256 * c.args.upper) l.lower)
+    omega (arith, l.invariant.ends, c.requires.room, c.loop-lower-test.true, from_few c.args.self.now.table.now c.args.self.now.x c.args.relation (256 * c.args.upper) l.lower)
 
 pub loop-lower-preserved : goal.loop-lower-preserved
 loop-lower-preserved c =
-    let t = c.args.table.now in
-    let x = c.args.x in
+    let t = c.args.self.now.table.now in
+    let x = c.args.self.now.x in
     let k = c.args.relation in
     let b = 256 * c.args.upper in
     let l = c.loop-lower in
