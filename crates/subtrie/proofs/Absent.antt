@@ -15,7 +15,7 @@ pub filled_none : (ns out : List ℕ) → ns ≡ [] → Filled ns out (Some 0) o
 filled_none ns out e = (omega (arith, ap length e), sym (ap length e), sym (ap (written out 0) e ∙ written_none out 0))
 
 -- a path that leads to no cell
-numbers_none : (cs : List Cell) (p : List ℕ) → cell_at cs p ≡ None → numbers_from cs p ≡ []
+pub numbers_none : (cs : List Cell) (p : List ℕ) → cell_at cs p ≡ None → numbers_from cs p ≡ []
 numbers_none cs p e = ap (at_found (numbers_below (length cs) cs)) e
 
 edgeless : (f : ℕ → List ℕ) (cs : List Cell) (s : ℕ) → ((a : ℕ) → child cs s a ≡ None) → (k : ℕ) → edge_numbers f cs s k ≡ []
@@ -37,7 +37,7 @@ module _ (cs : List Cell) (few : length cs < 2) where
   walked [] = at_root (length cs)
   walked (a ∷ p) = ap (λ o. at_found (numbers_below (length cs) cs) (onward o (λ t. walk cs t p))) (short_child cs few a)
 
-  numbers_few : (p : List ℕ) → numbers_from cs p ≡ []
+  pub numbers_few : (p : List ℕ) → numbers_from cs p ≡ []
   numbers_few p =
       cond_both (all_codes p) (walk cs 1 p) None (λ (o : Option ℕ). at_found (numbers_below (length cs) cs) o ≡ []) (λ c. walked p) (λ c. refl)
 

@@ -1,7 +1,7 @@
 use Rattle.std.proofs.Common.{◌≡◌, [], ◌∷◌, length, Some, sym, ap, ◌∙◌, arith, rules}
 use Rattle.subtrie.specs.Below.{numbers_below, room_after}
 use Rattle.subtrie.proofs.Steps.{below_leaf, below_none, below_edges, edges_end}
-use Rattle.subtrie.proofs.Rooms.{leaves, too_many, room_some, room_none, room_refused}
+use Rattle.subtrie.proofs.Rooms.{leaves, room_some, room_none, room_refused}
 use Rattle.subtrie.proofs.room.+room_below_room_edges.Goals as goal
 use Rattle.subtrie.proofs.room.+room_below_room_edges.Goals.{room_edges-in-Some+in_ok-rest, room_edges-in_default}
 

@@ -1,4 +1,4 @@
-use Rattle.std.proofs.Common.{length, sym, ap, ◌∙◌, arith, rules}
+use Rattle.std.proofs.Common.{length, ap, ◌∙◌, arith}
 use Rattle.subtrie.specs.Below.{numbers_below}
 use Rattle.subtrie.proofs.Steps.{below_leaf, below_none, below_edges, edges_end}
 use Rattle.subtrie.proofs.Writes.{wrote_none, wrote_one, wrote_as, wrote_all, wrote_some, wrote_past, edge_room}
