@@ -1,10 +1,11 @@
 -- The codes of a cell's children, one more.
-use Rattle.std.proofs.Common.{◌≡◌, ℕ, zero, suc, ◌+◌, ◌<◌, true, false, cond, ◌&&◌, ltb, List, [], ◌∷◌, ◌++◌, length, get_or, take, set, is_some, Some, None, All, Option, sym, refl, ap, ◌∙◌, subst, ⊎_elim, append-nil, add-one, arith}
+use Rattle.std.proofs.Common.{◌≡◌, ℕ, zero, suc, ◌+◌, ◌<◌, true, false, cond, ◌&&◌, ◌||◌, Bool, ltb, List, [], ◌∷◌, ◌++◌, length, get_or, filter, map, map-id, is_some, Some, None, All, Option, sym, refl, ap, ◌∙◌, append-nil, add-one, arith}
 use Rattle.std.proofs.lemmas.List.Elements.{All-nil, All-cons, All-get_or, All-append}
-use Rattle.std.proofs.lemmas.List.{take_more_set}
-use Rattle.std.proofs.lemmas.Bool.{cond-true, cond-false, cond_both, and_from, and_right, and_parts, both_ways, cases_eq, lt-ltb, ltb-true}
+use Rattle.std.specs.List.{range_with_len, list_any}
+use Rattle.std.proofs.lemmas.List.FromFn.{filter_of_map_range_with_len_more}
+use Rattle.std.proofs.lemmas.Bool.{cond-true, cond-false, cond_both, and_from, and_right, and_parts, both_ways, lt-ltb, ltb-true}
 use Rattle.cells.specs.declared.Cell.{Cell}
-use Rattle.cells.specs.Cells.{base_of, edge, child, codes_below, some_code}
+use Rattle.cells.specs.Cells.{base_of, edge, child, codes_below, child_codes, some_code}
 
 next : (cs : List Cell) (s n : ℕ) → codes_below cs s (n + 1) ≡ codes_below cs s n ++ cond (ltb 0 n && is_some (child cs s n)) (n ∷ []) []
 unfolding codes_below
@@ -14,13 +15,13 @@ pub codes_none : (cs : List Cell) (s : ℕ) → codes_below cs s 1 ≡ []
 unfolding codes_below
 codes_none cs s = refl
 
-module _ (cs : List Cell) (s n k : ℕ) (out : List ℕ) (low : 0 < n) (inv : take k out ≡ codes_below cs s n) where
-  pub codes_more : k < length out → is_some (child cs s n) ≡ true → take (k + 1) (set out k n) ≡ codes_below cs s (n + 1)
-  codes_more h is =
-      take_more_set out k n h ∙ ap (λ l. l ++ n ∷ []) inv
+module _ (cs : List Cell) (s n : ℕ) (codes : List ℕ) (low : 0 < n) (inv : codes ≡ codes_below cs s n) where
+  pub codes_more : is_some (child cs s n) ≡ true → codes ++ n ∷ [] ≡ codes_below cs s (n + 1)
+  codes_more is =
+      ap (λ l. l ++ n ∷ []) inv
       ∙ ap (λ l. codes_below cs s n ++ l) (sym (cond-true _ (n ∷ []) [] (and_from _ _ (lt-ltb 0 n low) is))) ∙ sym (next cs s n)
 
-  pub codes_same : is_some (child cs s n) ≡ false → take k out ≡ codes_below cs s (n + 1)
+  pub codes_same : is_some (child cs s n) ≡ false → codes ≡ codes_below cs s (n + 1)
   codes_same is =
       inv ∙ sym (append-nil (codes_below cs s n))
       ∙ ap (λ l. codes_below cs s n ++ l) (sym (cond-false _ (n ∷ []) [] (and_right _ _ is))) ∙ sym (next cs s n)
@@ -45,25 +46,26 @@ codes_in cs s (suc n) = All-append (λ a. base_of cs s + a < length cs) (codes_b
 pub codes_within : (cs : List Cell) (s n k : ℕ) → k < length (codes_below cs s n) → base_of cs s + get_or (codes_below cs s n) k 0 < length cs
 codes_within cs s n k h = All-get_or (λ a. base_of cs s + a < length cs) (codes_below cs s n) k 0 h (codes_in cs s n)
 
--- there is a child, or there is none so far
-pub codes_still : (cs : List Cell) (s n : ℕ) → 0 < n → codes_below cs s n ≡ [] → is_some (child cs s n) ≡ false → codes_below cs s (n + 1) ≡ []
-codes_still cs s n low none is = sym (codes_same cs s n 0 [] low (sym none) is)
+-- the child codes are those of the codes by which there is a child, so there is one if there is such a code
+abbrev leads : List Cell → ℕ → ℕ → Bool
+leads cs s a = is_some (child cs s a)
 
-some_left : (xs ys : List ℕ) → some_code xs ≡ true → some_code (xs ++ ys) ≡ true
-some_left [] ys e = absurd (both_ways false refl e)
-some_left (x ∷ xs) ys e = refl
-
-some_push : (xs : List ℕ) (a : ℕ) → some_code (xs ++ a ∷ []) ≡ true
-some_push [] a = refl
-some_push (x ∷ xs) a = refl
-
-pub some_after : (cs : List Cell) (s n m : ℕ) → 0 < n → n < m → is_some (child cs s n) ≡ true → some_code (codes_below cs s m) ≡ true
+codes_filter : (cs : List Cell) (s n : ℕ) → codes_below cs s (suc n) ≡ filter (leads cs s) (map (λ a. a) (range_with_len 1 n))
 unfolding codes_below
-some_after cs s n zero low lt is = absurd (omega arith)
-some_after cs s n (suc m) low lt is =
-    ⊎_elim
-    (λ (e : n ≡ m).
-    subst (λ k. some_code (codes_below cs s m ++ cond (ltb 0 k && is_some (child cs s k)) (k ∷ []) []) ≡ true) e
-    (ap (λ l. some_code (codes_below cs s m ++ l)) (cond-true _ (n ∷ []) [] (and_from _ _ (lt-ltb 0 n low) is)) ∙ some_push (codes_below cs s m) n))
-    (λ ne. some_left (codes_below cs s m) _ (some_after cs s n m low (omega arith) is))
-    (cases_eq n m)
+codes_filter cs s zero = refl
+codes_filter cs s (suc n) =
+    ap (λ b. codes_below cs s (suc n) ++ cond (b && leads cs s (suc n)) (suc n ∷ []) []) (lt-ltb 0 (suc n) (omega arith))
+    ∙ ap (λ l. l ++ cond (leads cs s (suc n)) (suc n ∷ []) []) (codes_filter cs s n)
+    ∙ sym (filter_of_map_range_with_len_more (leads cs s) (λ a. a) 1 n (suc n) (omega arith))
+    ∙ ap (λ k. filter (leads cs s) (map (λ a. a) (range_with_len 1 k))) (add-one n)
+
+some_of_filter : (p : ℕ → Bool) (l : List ℕ) → some_code (filter p l) ≡ list_any p l
+some_of_filter p [] = refl
+some_of_filter p (a ∷ l) =
+    cond_both (p a) (a ∷ filter p l) (filter p l) (λ k. some_code k ≡ (p a || list_any p l))
+    (λ e. ap (λ b. b || list_any p l) (sym e)) (λ e. some_of_filter p l ∙ ap (λ b. b || list_any p l) (sym e))
+
+pub some_child : (cs : List Cell) (s : ℕ) → list_any (leads cs s) (range_with_len 1 257) ≡ some_code (child_codes cs s)
+some_child cs s =
+    let all : List ℕ = range_with_len 1 257 in
+    ap (list_any (leads cs s)) (sym (map-id all)) ∙ sym (ap some_code (codes_filter cs s 257) ∙ some_of_filter (leads cs s) (map (λ a. a) all))

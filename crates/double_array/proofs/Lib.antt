@@ -1,4 +1,5 @@
 pub mod Codes
+pub mod Buffers
 pub mod Walks
 pub mod Moving
 pub mod Giving

@@ -1,5 +1,5 @@
 -- Which refusal applies, from what the code has found.
-use Rattle.std.proofs.Common.{◌≡◌, ℕ, ◌+◌, ◌-◌, ◌<◌, ◌≤◌, true, false, cond, not, ◌&&◌, List, [], ◌∷◌, ◌++◌, length, get_or, set, ℤ, pos, negsuc, Some, None, Option, sym, refl, ap, ◌∙◌, subst, arith, length-append}
+use Rattle.std.proofs.Common.{◌≡◌, ℕ, ◌+◌, ◌-◌, ◌<◌, ◌≤◌, true, false, cond, not, ◌&&◌, List, [], ◌∷◌, ◌++◌, length, get_or, set, ℤ, pos, negsuc, Some, None, Ok, Err, Option, Result, sym, refl, ap, ◌∙◌, subst, arith, length-append}
 use lib.Signed.{lt_z}
 use Rattle.std.proofs.lemmas.List.{get_or_push}
 use Rattle.std.proofs.lemmas.Bool.{cond-true, cond-false, and_from, and_left, and_right, and_parts, not_from_true, not_from_false, ltb-true, le-ltb}
@@ -8,8 +8,9 @@ use Rattle.cells.specs.Cells.{base_of, is_free, is_leaf, child, child_codes, som
 use Rattle.cells.specs.Placing.{Arrays, Lowest, lowest, placed_at, place, then_place, grow, extend, found_or, enter_from, enter}
 use Rattle.cells.proofs.Lowests.{lowest_holds}
 use Rattle.cells.proofs.Sounds.{short_root, short_child}
+use Rattle.refusal.specs.declared.PathFault.{PathFault}
 use Rattle.refusal.specs.declared.PathFault.TheVariants as fault
-use Rattle.double_array.specs.Entries.{Followed, follow, or_stop, is_path, is_open, is_new, no_place, refusal, extended}
+use Rattle.double_array.specs.Entries.{Followed, follow, or_stop, is_path, is_open, is_new, no_place, refusal, extended, Entry, Extended}
 use Rattle.double_array.proofs.Giving.{some_yes, some_no}
 use Rattle.double_array.proofs.Follows.{stop}
 
@@ -51,6 +52,11 @@ module _ (cs : List Cell) (is p : List ℕ) (u : ℕ) (path : is_path p ≡ true
       missing =
           ap (λ t. child cs t (get_or rest 0 0)) node ∙ ap (λ l. child cs (follow cs 1 p).node (get_or l 0 0)) left
           ∙ (stop cs p 1).missing (subst (λ l. 0 < length l) left some)
+
+      -- what came of the rest of the path came of the whole
+      pub entry_of : (r : Result (Unit {0}) PathFault) (xs : List Cell) (js : List ℕ) → Extended cs is s rest (u - 1) r xs js → Entry cs is p u r xs js
+      entry_of (Ok x) xs js h = let done = entered ∙ h in (judged_by leaves _ done, done)
+      entry_of (Err e) xs js h = (judged_by leaves None (entered ∙ h.1) ∙ ap Some (sym h.0), h.2, h.3)
 
 -- fewer than two cells have no place
 module _ (cs : List Cell) (is : List ℕ) (few : length cs < 2) where

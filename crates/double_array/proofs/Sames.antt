@@ -1,11 +1,7 @@
 -- A double array whose cells and index are as they were is the very same.
-use Rattle.std.proofs.Common.{◌≡◌, ℕ, ◌≤◌, List, length, IfNone, IfErr, Some, None, Ok, Err, vec_items, Option, Result, Vec, sym, ap, ◌∙◌}
+use Rattle.std.proofs.Common.{◌≡◌, ℕ, List, IfNone, IfErr, Some, None, Ok, Err, vec_items, Option, Result}
 use mathlib.Core.HLevel.{is_prop→PathP}
-use native.Mathlib.Bridge.{le_prop}
-use native.Mathlib.Nat.{ℕ_set}
 use denote.Struct.Props.{props}
-use Rattle.std.specs.Vec.{with_items}
-use Rattle.std.proofs.lemmas.List.{with_items_is}
 use Rattle.cells.specs.contracts.Cell.{the_row as cell_row}
 use Rattle.cells.specs.declared.Cell.{Cell}
 use Rattle.cells.specs.Index.{Leads, Entered}
@@ -15,33 +11,17 @@ use Rattle.double_array.specs.Entries.{Entry}
 use Rattle.double_array.specs.Outcomes.{Taken}
 use Rattle.double_array.specs.declared.array.DoubleArray.{DoubleArray}
 
--- a Vec that gets its own elements again
-pub same_vec : {X Z : Type 0} (v : Vec X Z) (ws : List X) → ws ≡ vec_items v → with_items v ws ≡ v
-same_vec v ws e =
-    let items : (with_items v ws).items ≡ v.items = with_items_is v ws (ap length e ∙ sym v.ok.0) ∙ e in
-    λ j. record {
-      ptr = v.ptr;
-      len = v.len;
-      cap = v.cap;
-      alloc = v.alloc;
-      items = items j;
-      ok = (is_prop→PathP (λ k. v.len ≡ length (items k)) (λ k. ℕ_set _ _) (with_items v ws).ok.0 v.ok.0 j, v.ok.1);
-      small = v.small;
-    }
-
--- two double arrays with the same cells and the same index
-pub same_array : (d e : DoubleArray) → d.cells ≡ e.cells → d.index ≡ e.index → d ≡ e
-same_array d e p q = λ j. record {
-  cells = p j;
-  index = q j;
-  sized = is_prop→PathP (λ k. length (vec_items (p k)) ≤ 1048576) (λ k. le_prop) d.sized e.sized j;
-  rooted = is_prop→PathP (λ k. Rooted (vec_items (p k))) (λ k. hlevel props) d.rooted e.rooted j;
-  bare = is_prop→PathP (λ k. Bare (vec_items (p k))) (λ k. hlevel props) d.bare e.bare j;
-  blank = is_prop→PathP (λ k. Blank (vec_items (p k))) (λ k. hlevel (props, cell_row.coded)) d.blank e.blank j;
-  reached = is_prop→PathP (λ k. Reached (vec_items (p k))) (λ k. hlevel props) d.reached e.reached j;
-  ended = is_prop→PathP (λ k. Ended (vec_items (p k))) (λ k. hlevel props) d.ended e.ended j;
-  leads = is_prop→PathP (λ k. Leads (vec_items (p k)) (vec_items (q k))) (λ k. hlevel props) d.leads e.leads j;
-  entered = is_prop→PathP (λ k. Entered (vec_items (p k)) (vec_items (q k))) (λ k. hlevel props) d.entered e.entered j;
+-- two double arrays with the same nodes
+pub same_array : (d e : DoubleArray) → d.nodes ≡ e.nodes → d ≡ e
+same_array d e p = λ j. record {
+  nodes = p j;
+  rooted = is_prop→PathP (λ k. Rooted (vec_items (p k).cells)) (λ k. hlevel props) d.rooted e.rooted j;
+  bare = is_prop→PathP (λ k. Bare (vec_items (p k).cells)) (λ k. hlevel props) d.bare e.bare j;
+  blank = is_prop→PathP (λ k. Blank (vec_items (p k).cells)) (λ k. hlevel (props, cell_row.coded)) d.blank e.blank j;
+  reached = is_prop→PathP (λ k. Reached (vec_items (p k).cells)) (λ k. hlevel props) d.reached e.reached j;
+  ended = is_prop→PathP (λ k. Ended (vec_items (p k).cells)) (λ k. hlevel props) d.ended e.ended j;
+  leads = is_prop→PathP (λ k. Leads (vec_items (p k).cells) (vec_items (p k).index)) (λ k. hlevel props) d.leads e.leads j;
+  entered = is_prop→PathP (λ k. Entered (vec_items (p k).cells) (vec_items (p k).index)) (λ k. hlevel props) d.entered e.entered j;
 }
 
 -- a refused entry leaves the array as it was

@@ -1,31 +1,34 @@
--- Counting the cells in use, one cell more.
-use Rattle.std.proofs.Common.{◌≡◌, ℕ, ◌+◌, ◌-◌, ◌<◌, ◌≤◌, cond, ltb, List, length, get_or, take, filter, sym, ap, ◌∙◌, arith}
+-- The cells in use, one by one and by their numbers.
+use Rattle.std.proofs.Common.{◌≡◌, ℕ, suc, ◌+◌, Bool, cond, ltb, List, [], ◌∷◌, length, drop, filter, ℤ, pos, negsuc, sym, refl, ap, ◌∙◌, arith}
+use lib.Signed.{lt_z}
 use Rattle.std.specs.List.{range_with_len}
-use Rattle.std.proofs.lemmas.List.Filters.{length-filter_more}
-use Rattle.std.proofs.lemmas.List.FromFn.{length-range_with_len, get_or-range_with_len}
-use Rattle.std.proofs.lemmas.Bool.{cond-true, cond-false, lt-ltb, le-ltb}
+use Rattle.std.proofs.lemmas.List.{get_or-drop, drop-drop}
+use Rattle.std.proofs.lemmas.Bool.{cond_both}
 use Rattle.cells.specs.declared.Cell.{Cell}
-use Rattle.cells.specs.Cells.{parent}
+use Rattle.cells.specs.Cells.{free_cell, at, nat, parent}
 
-module _ (cs : List Cell) (t : ℕ) (low : 1 ≤ t) (within : t < length cs) where
-  abbrev all : List ℕ
-  all = range_with_len 1 (length cs - 1)
+-- whether the cell is in use
+abbrev pub is_used : Cell → Bool
+is_used cell = lt_z (pos 0) cell.check
 
-  abbrev so_far : ℕ → ℕ
-  so_far n = length (filter (λ u. ltb 0 (parent cs u)) (take n all))
+same_test : (z : ℤ) → ltb 0 (nat z) ≡ lt_z (pos 0) z
+same_test (pos n) = refl
+same_test (negsuc n) = refl
 
-  here : get_or all (t - 1) 0 ≡ t
-  here = get_or-range_with_len 1 (length cs - 1) (t - 1) 0 (omega arith) ∙ (let e : 1 + (t - 1) ≡ t = omega arith in e)
+-- as many from the cell k up
+module _ (cs : List Cell) where
+  abbrev numbers : ℕ → ℕ → List ℕ
+  numbers k n = filter (λ t. ltb 0 (parent cs t)) (range_with_len k n)
 
-  step : so_far (t + 1 - 1) ≡ so_far (t - 1) + cond (ltb 0 (parent cs t)) 1 0
-  step =
-      let next : t + 1 - 1 ≡ (t - 1) + 1 = omega arith in
-      ap so_far next
-      ∙ length-filter_more (λ u. ltb 0 (parent cs u)) all (t - 1) 0 (simp length-range_with_len (omega arith))
-      ∙ ap (λ u. so_far (t - 1) + cond (ltb 0 (parent cs u)) 1 0) here
-
-  pub used_more : (0 < parent cs t → so_far (t - 1) + 1 ≡ so_far (t + 1 - 1)) × (parent cs t ≤ 0 → so_far (t - 1) ≡ so_far (t + 1 - 1))
-  used_more = (
-    (λ h. sym (step ∙ ap (λ k. so_far (t - 1) + k) (cond-true (ltb 0 (parent cs t)) 1 0 (lt-ltb 0 (parent cs t) h)))),
-    (λ h. sym (step ∙ ap (λ k. so_far (t - 1) + k) (cond-false (ltb 0 (parent cs t)) 1 0 (le-ltb 0 (parent cs t) h)) ∙ (let e : so_far (t - 1) + 0 ≡ so_far (t - 1) = omega arith in e))),
-  )
+  pub used_from : (ds : List Cell) (k : ℕ) → drop k cs ≡ ds → length (filter is_used ds) ≡ length (numbers k (length ds))
+  used_from [] k e = refl
+  used_from (d ∷ ds) k e =
+      let same : at cs (k + 0) ≡ d = sym (get_or-drop k cs 0 free_cell) ∙ ap (λ l. at l 0) e in
+      let here : k + 0 ≡ k = omega arith in
+      let test : ltb 0 (parent cs k) ≡ is_used d = ap (λ t. ltb 0 (parent cs t)) (sym here) ∙ ap (λ c. ltb 0 (nat c.check)) same ∙ same_test d.check in
+      let rest : length (filter is_used ds) ≡ length (numbers (k + 1) (length ds)) = used_from ds (k + 1) (sym (drop-drop 1 k cs) ∙ ap (drop 1) e) in
+      cond_both (is_used d) (d ∷ filter is_used ds) (filter is_used ds)
+      (λ l. length l ≡ length (cond (is_used d) (k ∷ numbers (k + 1) (length ds)) (numbers (k + 1) (length ds))))
+      (λ y. ap (λ n. suc n) rest ∙ ap (λ b. length (cond b (k ∷ numbers (k + 1) (length ds)) (numbers (k + 1) (length ds)))) (sym y))
+      (λ y. rest ∙ ap (λ b. length (cond b (k ∷ numbers (k + 1) (length ds)) (numbers (k + 1) (length ds)))) (sym y))
+      ∙ ap (λ b. length (cond b (k ∷ numbers (k + 1) (length ds)) (numbers (k + 1) (length ds)))) (sym test)

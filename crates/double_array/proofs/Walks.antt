@@ -1,11 +1,11 @@
 -- One step of a walk.
-use Rattle.std.proofs.Common.{◌≡◌, ℕ, ◌+◌, ◌<◌, List, [], ◌∷◌, length, get_or, drop, Some, None, Option, sym, refl, ap, ◌∙◌, arith}
+use Rattle.std.proofs.Common.{◌≡◌, ℕ, ◌+◌, ◌<◌, cond, ltb, List, [], ◌∷◌, length, get_or, drop, Some, None, Option, sym, refl, ap, ◌∙◌, arith}
 use Rattle.std.proofs.lemmas.List.{at_drop_more}
-use Rattle.std.proofs.lemmas.Bool.{cond_both, and_parts, ltb-true}
+use Rattle.std.proofs.lemmas.Bool.{cond_both, and_parts, ltb-true, ltb-false}
 use Rattle.cells.specs.declared.Cell.{Cell}
 use Rattle.cells.specs.Cells.{at, nat, number, edge, child, all_codes}
 use Rattle.cells.proofs.Sounds.{short_root, short_child}
-use Rattle.cells.specs.Walking.{onward, walk, number_at}
+use Rattle.cells.specs.Walking.{onward, walk, cell_at, number_at}
 
 pub child_within : (cs : List Cell) (s a t : ℕ) → child cs s a ≡ Some t → t < length cs
 child_within cs s a t =
@@ -26,3 +26,10 @@ module _ (cs : List Cell) (few : length cs < 2) where
 
   pub number_none : (p : List ℕ) → None ≡ number_at cs p
   number_none p = sym (cond_both (all_codes p) (walk cs 1 p) None (λ o. onward o (λ t. number (at cs t).base) ≡ None) (λ e. walk_none p) (λ e. refl))
+
+-- and so does a path that leads to no cell
+pub number_missing : (cs : List Cell) (p : List ℕ) → None ≡ cond (ltb 1 (length cs)) (cell_at cs p) None → None ≡ number_at cs p
+number_missing cs p =
+    cond_both (ltb 1 (length cs)) (cell_at cs p) None (λ o. None ≡ o → None ≡ number_at cs p)
+    (λ two none. ap (λ o. onward o (λ t. number (at cs t).base)) none)
+    (λ few none. let short : length cs < 2 = omega (arith, ltb-false 1 (length cs) few) in number_none cs short p)

@@ -1,5 +1,5 @@
 -- Which paths can be entered, and what an entry leaves.
-use Rattle.std.specs.Prelude.{◌≡◌, ℕ, ◌-◌, Bool, true, false, cond, not, ◌&&◌, List, [], ◌∷◌, length, Some, None, Ok, Err, Option, Result, ◌==◌, nat_lt, slice_index}
+use Rattle.std.specs.Prelude.{◌≡◌, ℕ, ◌-◌, Bool, cond, not, ◌&&◌, List, [], ◌∷◌, length, Some, None, Ok, Err, Option, Result, ◌==◌, nat_lt, slice_index}
 use Rattle.cells.specs.declared.Cell.{Cell}
 use Rattle.cells.specs.Cells.{is_leaf, child, some_code, all_codes}
 use Rattle.cells.specs.Placing.{Arrays, extend, enter}
@@ -60,6 +60,6 @@ extended [] cs is s n = None
 extended (a ∷ more) cs is s n = extend more cs is s a n
 
 -- they do, or there is no place and nothing changes
-abbrev pub Extended : List Cell → List ℕ → ℕ → List ℕ → ℕ → Bool → List Cell → List ℕ → Type 0
-Extended cs is s codes n true xs js = extended codes cs is s n ≡ Some (record { cells = xs; index = js })
-Extended cs is s codes n false xs js = (extended codes cs is s n ≡ None) × (xs ≡ cs) × (js ≡ is)
+abbrev pub Extended : List Cell → List ℕ → ℕ → List ℕ → ℕ → Result (Unit {0}) PathFault → List Cell → List ℕ → Type 0
+Extended cs is s codes n (Ok _) xs js = extended codes cs is s n ≡ Some (record { cells = xs; index = js })
+Extended cs is s codes n (Err e) xs js = (e ≡ fault.NoPlace) × (extended codes cs is s n ≡ None) × (xs ≡ cs) × (js ≡ is)

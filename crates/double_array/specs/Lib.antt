@@ -1,4 +1,5 @@
 pub mod Outcomes
+pub mod Buffers
 pub mod Views
 pub mod Entries
 pub mod Spellings

@@ -5,8 +5,8 @@ use Rattle.double_array.specs.declared.array.DoubleArray.{DoubleArray}
 
 -- its cells
 abbrev pub cells_of : DoubleArray → List Cell
-cells_of d = vec_items d.cells
+cells_of d = vec_items d.nodes.cells
 
 -- its index
 abbrev pub index_of : DoubleArray → List ℕ
-index_of d = vec_items d.index
+index_of d = vec_items d.nodes.index

@@ -1,7 +1,7 @@
 // What is done with a double array.
-ghost use Rattle.std.specs.Prelude.{◌≡◌, ℕ, ◌<◌, min, List, length, IfNone, None, vec_len, OnErr, OnOk, slice_index};
-ghost use Rattle.cells.specs.Cells.{at};
-ghost use Rattle.cells.specs.Walking.{number_at};
+ghost use Rattle.std.specs.Prelude.{◌≡◌, ℕ, ◌<◌, min, List, length, IfNone, IfSome, if◌then◌else◌, None, nat_lt, vec_len, OnErr, OnOk, slice_index};
+ghost use Rattle.cells.specs.Cells.{at, child as child_of};
+ghost use Rattle.cells.specs.Walking.{cell_at, number_at};
 ghost use Rattle.cells.specs.Counting.{in_use};
 ghost use Rattle.cells.specs.Laws.{cleared, Walks};
 ghost use Rattle.double_array.specs.Outcomes.{SameSizes, Taken, Removed, Counted};
@@ -10,28 +10,24 @@ ghost use Rattle.double_array.specs.Spellings.{Written, Named};
 ghost use Rattle.double_array.specs.Views.{cells_of, index_of};
 
 use super::array::DoubleArray;
-use super::placing::{clear, clear_index};
-use super::pruning::take_out;
-use super::{entering, paths};
+use super::nodes::Nodes;
 use cells::Cell;
 use refusal::{NumberFault, PathFault};
 
 impl DoubleArray {
     // The most cells that an array has.
-    pub const MAX_CELLS: usize = 1_048_576;
+    pub const MAX_CELLS: usize = Nodes::MAX_CELLS;
 
     // An array without a path. Of more than 1,048,576 cells the rest is given up.
-    pub fn new(mut cells: Vec<Cell>, mut index: Vec<u32>) -> DoubleArray
+    pub fn new(cells: Vec<Cell>, index: Vec<u32>) -> DoubleArray
         ensures cells_len { length (cells_of result) ≡ min (vec_len cells) 1048576 }
         ensures cells { (j : ℕ) → j < length (cells_of result) → at (cells_of result) j ≡ cleared j }
         ensures index_len { length (index_of result) ≡ vec_len index }
         ensures index { (n : ℕ) → slice_index (index_of result) n ≡ 0 }
         ensures none { (p : List ℕ) → number_at (cells_of result) p ≡ None }
     {
-        cells.truncate(Self::MAX_CELLS);
-        clear(cells.as_mut_slice());
-        clear_index(index.as_mut_slice());
-        DoubleArray { cells, index }
+        let nodes = Nodes::new(cells, index);
+        DoubleArray { nodes }
     }
 
     // The number at the end of the path, or none where the path is not held: walking finds exactly the held paths.
@@ -39,7 +35,7 @@ impl DoubleArray {
         ensures number { result ≡ number_at (cells_of self.now) path.now }
         ensures paths { Walks (cells_of self.now) path.now }
     {
-        paths::number_at(self.cells.as_slice(), path)
+        self.nodes.number_at(path)
     }
 
     // Enters the path with the number, or says why it is refused and changes nothing.
@@ -49,12 +45,7 @@ impl DoubleArray {
         ensures paths { OnOk result (Added (cells_of self.old) path.now number (cells_of self.new)) }
         ensures same { OnErr result (self.new ≡ self.old) }
     {
-        entering::enter(
-            self.cells.as_mut_slice(),
-            self.index.as_mut_slice(),
-            path,
-            number,
-        )
+        self.nodes.enter(path, number)
     }
 
     // Takes the path out and says its number, or changes nothing where the path is not held.
@@ -64,7 +55,7 @@ impl DoubleArray {
         ensures paths { Removed (cells_of self.old) path.now (cells_of self.new) }
         ensures same { IfNone result (self.new ≡ self.old) }
     {
-        take_out(self.cells.as_mut_slice(), self.index.as_mut_slice(), path)
+        self.nodes.take_out(path)
     }
 
     // Writes the path of the number into the front of `out` and says its length, or writes nothing where the number has no
@@ -73,7 +64,7 @@ impl DoubleArray {
         ensures path { Written (cells_of self.now) (index_of self.now) number out.old result out.new }
         ensures paths { Named (cells_of self.now) (index_of self.now) number }
     {
-        paths::path_of(self.cells.as_slice(), self.index.as_slice(), number, out)
+        self.nodes.path_of(number, out)
     }
 
     // How many cells are in use: one more than the different beginnings of the held paths, in an array of two cells or more.
@@ -81,20 +72,36 @@ impl DoubleArray {
         ensures cells { result ≡ in_use (cells_of self.now) }
         ensures paths { Counted (cells_of self.now) result }
     {
-        paths::in_use(self.cells.as_slice())
+        self.nodes.in_use()
+    }
+
+    // The child of the node `s` by the code: none where there is no cell `s`.
+    pub fn child(&self, s: usize, code: u16) -> Option<usize>
+        ensures child { result ≡ child_of (cells_of self.now) s code }
+        ensures within { IfSome result (λ t. t < length (cells_of self.now)) }
+    {
+        self.nodes.child(s, code)
+    }
+
+    // The cell that the path leads to from the root: none in an array of fewer than two cells, which has no root.
+    pub fn cell_at(&self, path: &[u16]) -> Option<usize>
+        ensures cell { result ≡ (if nat_lt 1 (length (cells_of self.now)) then cell_at (cells_of self.now) path.now else None) }
+        ensures within { IfSome result (λ t. t < length (cells_of self.now)) }
+    {
+        self.nodes.cell_at(path)
     }
 
     // The cells.
     pub fn cells(&self) -> &[Cell]
         ensures { result.now ≡ cells_of self.now }
     {
-        &self.cells
+        &self.nodes.cells
     }
 
     // The index.
     pub fn index(&self) -> &[u32]
         ensures { result.now ≡ index_of self.now }
     {
-        &self.index
+        &self.nodes.index
     }
 }

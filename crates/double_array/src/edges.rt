@@ -1,88 +1,99 @@
-// Looking at cells: which are free, and which child a code leads to.
-ghost use Rattle.std.specs.Prelude.{◌≡◌, ◌+◌, ◌^◌, ◌<◌, ◌≤◌, length, take, IfSome};
-ghost use Rattle.cells.specs.Cells.{is_free, is_leaf, child as child_of, child_codes, some_code};
+// Looking at nodes: which cells are free, and which child a code leads to.
+ghost use Rattle.std.specs.Prelude.{◌≡◌, ◌^◌, ◌<◌, ◌≤◌, length, IfSome};
+ghost use Rattle.arrayvec.specs.ArrayVec.{array_vec_len};
+ghost use Rattle.cells.specs.Cells.{nat, base_of, parent, is_free, is_leaf, child as child_of, child_codes, some_code};
 ghost use Rattle.cells.specs.Walking.{walk as walk_from};
 
+use super::nodes::Nodes;
+use arrayvec::ArrayVec;
 use cells::Cell;
 
-// Whether the cell `t` exists and is free.
-pub(super) fn is_free(cells: &[Cell], t: usize) -> bool
-    ensures { result ≡ is_free cells.now t }
+// A signed number as the number of a cell: 0 where it is negative.
+fn cell_number(value: i32) -> usize
+    ensures number { result ≡ nat value }
+    ensures small { result < 2 ^ 31 }
 {
-    t < cells.len() && cells[t].base == 0 && cells[t].check == 0
+    value.max(0) as usize
 }
 
-// Whether `s` is a leaf.
-pub(super) fn is_leaf(cells: &[Cell], s: usize) -> bool
-    requires { s < length cells.now }
-    ensures { result ≡ is_leaf cells.now s }
-{
-    cells[s].base < 0
-}
-
-// The child of `s` by the code.
-pub fn child(cells: &[Cell], s: usize, code: u16) -> Option<usize>
-    requires within { s < length cells.now }
-    requires room { length cells.now < 2 ^ 31 }
-    ensures { result ≡ child_of cells.now s code }
-{
-    let base = cells[s].base;
-    if base <= 0 {
-        return None;
+impl Nodes {
+    // Whether the cell `t` exists and is free.
+    pub(super) fn is_free(&self, t: usize) -> bool
+        ensures { result ≡ is_free self.now.cells.items t }
+    {
+        self.cells.get(t) == Some(&Cell::FREE)
     }
-    let t = base as usize + code as usize;
-    if t < cells.len() && cells[t].check == s as i32 {
-        Some(t)
-    } else {
-        None
-    }
-}
 
-// Writes the codes by which `s` has a child into the front of `out`, in rising order, and says how many there are.
-pub(super) fn child_codes(cells: &[Cell], s: usize, out: &mut [u16]) -> usize
-    requires within { s < length cells.now }
-    requires room { length cells.now < 2 ^ 31 }
-    requires long { 257 ≤ length out.old }
-    ensures few { result ≤ 257 }
-    ensures codes { take result out.new ≡ child_codes cells.now s }
-{
-    let mut n = 0;
-    for code in 1..258 {
-        if child(cells, s, code).is_some() {
-            out[n] = code;
-            n += 1;
+    // Whether `s` is a leaf.
+    pub(super) fn is_leaf(&self, s: usize) -> bool
+        requires { s < length self.now.cells.items }
+        ensures { result ≡ is_leaf self.now.cells.items s }
+    {
+        self.cells[s].base < 0
+    }
+
+    // The base of `s`: 0 in a leaf and in a free cell.
+    pub(super) fn base(&self, s: usize) -> usize
+        requires { s < length self.now.cells.items }
+        ensures base { result ≡ base_of self.now.cells.items s }
+        ensures small { result < 2 ^ 31 }
+    {
+        cell_number(self.cells[s].base)
+    }
+
+    // The parent of `t`, the cell above it: 0 for a free cell.
+    pub(super) fn parent(&self, t: usize) -> usize
+        requires { t < length self.now.cells.items }
+        ensures { result ≡ parent self.now.cells.items t }
+    {
+        cell_number(self.cells[t].check)
+    }
+
+    // The child of `s` by the code: none where there is no cell `s`.
+    pub(super) fn child(&self, s: usize, code: u16) -> Option<usize>
+        ensures child { result ≡ child_of self.now.cells.items s code }
+        ensures within { IfSome result (λ t. t < length self.now.cells.items) }
+    {
+        let base = self.cells.get(s)?.base;
+        if base <= 0 {
+            return None;
         }
+        let t = base as usize + code as usize;
+        let check = self.cells.get(t)?.check;
+        (check == s as i32).then_some(t)
     }
-    n
-}
 
-// The cell that the path leads to from the root.
-pub(super) fn walk(cells: &[Cell], path: &[u16]) -> Option<usize>
-    requires two { 1 < length cells.now }
-    requires room { length cells.now < 2 ^ 31 }
-    ensures cell { result ≡ walk_from cells.now 1 path.now }
-    ensures within { IfSome result (λ t. t < length cells.now) }
-{
-    let mut s = 1;
-    for code in path {
-        match child(cells, s, *code) {
-            Some(t) => s = t,
-            None => return None,
+    // The codes by which `s` has a child, in rising order.
+    pub(super) fn child_codes(&self, s: usize) -> ArrayVec<u16, 258>
+        ensures few { array_vec_len result ≤ 257 }
+        ensures codes { result.items ≡ child_codes self.now.cells.items s }
+    {
+        let mut codes = ArrayVec::new();
+        for code in 1..258 {
+            if self.child(s, code).is_some() {
+                codes.push(code);
+            }
         }
+        codes
     }
-    Some(s)
-}
 
-// Whether `s` has a child.
-pub(super) fn has_child(cells: &[Cell], s: usize) -> bool
-    requires within { s < length cells.now }
-    requires room { length cells.now < 2 ^ 31 }
-    ensures { result ≡ some_code (child_codes cells.now s) }
-{
-    for code in 1..258 {
-        if child(cells, s, code).is_some() {
-            return true;
+    // The cell that the path leads to from the root.
+    pub(super) fn walk(&self, path: &[u16]) -> Option<usize>
+        requires { 1 < length self.now.cells.items }
+        ensures cell { result ≡ walk_from self.now.cells.items 1 path.now }
+        ensures within { IfSome result (λ t. t < length self.now.cells.items) }
+    {
+        let mut s = 1;
+        for code in path {
+            s = self.child(s, *code)?;
         }
+        Some(s)
     }
-    false
+
+    // Whether `s` has a child.
+    pub(super) fn has_child(&self, s: usize) -> bool
+        ensures { result ≡ some_code (child_codes self.now.cells.items s) }
+    {
+        (1..258).any(|code| self.child(s, code).is_some())
+    }
 }

@@ -1,14 +1,12 @@
 // Reading: the number at the end of a path, the path that leads to a cell, and how many cells are in use.
-ghost use Rattle.std.specs.Prelude.{◌≡◌, ◌+◌, ◌-◌, ◌^◌, ◌<◌, length, IfSome, if◌then◌else◌, Some, None, slice_index};
+ghost use Rattle.std.specs.Prelude.{◌≡◌, ◌-◌, ◌<◌, length, IfSome, if◌then◌else◌, Some, None, nat_lt, slice_index};
 ghost use Rattle.cells.specs.Cells.{parent, number, is_code, all_codes};
 ghost use Rattle.cells.specs.Walking.{cell_at, number_at, path_to};
 ghost use Rattle.cells.specs.Counting.{in_use};
 ghost use Rattle.double_array.specs.Outcomes.{Upward};
 ghost use Rattle.double_array.specs.Spellings.{is_known, Pointed, Written};
 
-use super::edges::walk;
-use super::placing::cell_number;
-use cells::Cell;
+use super::nodes::Nodes;
 use refusal::NumberFault;
 
 // Whether it is the code of the end sign, 1, or of a label, 2 to 257.
@@ -22,130 +20,101 @@ pub(super) fn is_code(code: u16) -> bool
 pub(super) fn all_codes(path: &[u16]) -> bool
     ensures { result ≡ all_codes path.now }
 {
-    for code in path {
-        if !is_code(*code) {
-            return false;
-        }
-    }
-    true
+    path.iter().all(|code| is_code(*code))
 }
 
 // The number of the leaf with this base.
 pub fn leaf_number(base: i32) -> Option<u32>
     ensures { result ≡ number base }
 {
-    if base < 0 {
-        Some(base.unsigned_abs())
-    } else {
-        None
-    }
+    (base < 0).then(|| base.unsigned_abs())
 }
 
-// The cell that the path leads to from the root.
-pub fn cell_at(cells: &[Cell], path: &[u16]) -> Option<usize>
-    requires two { 1 < length cells.now }
-    requires room { length cells.now < 2 ^ 31 }
-    ensures cell { result ≡ cell_at cells.now path.now }
-    ensures within { IfSome result (λ t. t < length cells.now) }
-{
-    if all_codes(path) {
-        walk(cells, path)
-    } else {
-        None
-    }
-}
-
-// The number of the leaf that the path leads to.
-pub(super) fn number_at(cells: &[Cell], path: &[u16]) -> Option<u32>
-    requires { length cells.now < 2 ^ 31 }
-    ensures { result ≡ number_at cells.now path.now }
-{
-    if cells.len() < 2 {
-        return None;
-    }
-    let t = cell_at(cells, path)?;
-    leaf_number(cells[t].base)
-}
-
-// How many codes lead to the cell `t`.
-pub(super) fn path_length(cells: &[Cell], t: usize) -> usize
-    requires upward { Upward cells.now }
-    requires used { 0 < parent cells.now t }
-    requires room { length cells.now < 2 ^ 31 }
-    ensures { result ≡ length (path_to cells.now t) }
-{
-    let mut s = t;
-    let mut n = 0;
-    for _ in 0..cells.len() {
-        if s == 1 {
-            break;
-        }
-        s = cell_number(cells[s].check);
-        n += 1;
-    }
-    n
-}
-
-// Writes the path that leads to the cell `t` into `out`, which is as long as the path.
-pub(super) fn write_path(cells: &[Cell], t: usize, out: &mut [u16])
-    requires upward { Upward cells.now }
-    requires used { 0 < parent cells.now t }
-    requires room { length cells.now < 2 ^ 31 }
-    requires long { length out.old ≡ length (path_to cells.now t) }
-    ensures { out.new ≡ path_to cells.now t }
-{
-    let mut s = t;
-    for i in (0..out.len()).rev() {
-        let above = cell_number(cells[s].check);
-        out[i] = (s - cell_number(cells[above].base)) as u16;
-        s = above;
-    }
-}
-
-// The leaf of the number, by the index.
-pub(super) fn leaf_of(index: &[u32], number: u32) -> Option<usize>
-    ensures { result ≡ (if is_known index.now number then Some (slice_index index.now (number - 1)) else None) }
-{
-    if number == 0 || number as usize > index.len() {
-        return None;
-    }
-    let t = index[number as usize - 1];
-    if t > 0 { Some(t as usize) } else { None }
-}
-
-// Writes the path of the number into the front of `out` and says its length, or writes nothing where the number has no
-// leaf or `out` is too short.
-pub(super) fn path_of(
-    cells: &[Cell],
-    index: &[u32],
-    number: u32,
-    out: &mut [u16],
-) -> Result<usize, NumberFault>
-    requires upward { Upward cells.now }
-    requires leaves { Pointed cells.now index.now }
-    requires room { length cells.now < 2 ^ 31 }
-    ensures { Written cells.now index.now number out.old result out.new }
-{
-    let Some(t) = leaf_of(index, number) else {
-        return Err(NumberFault::Unknown);
-    };
-    let n = path_length(cells, t);
-    if out.len() < n {
-        return Err(NumberFault::Short);
-    }
-    write_path(cells, t, &mut out[0..n]);
-    Ok(n)
-}
-
-// How many cells are in use.
-pub(super) fn in_use(cells: &[Cell]) -> usize
-    ensures { result ≡ in_use cells.now }
-{
-    let mut n = 0;
-    for t in 1..cells.len() {
-        if cell_number(cells[t].check) > 0 {
-            n += 1;
+impl Nodes {
+    // The cell that the path leads to from the root: none where there is no root.
+    pub(super) fn cell_at(&self, path: &[u16]) -> Option<usize>
+        ensures cell { result ≡ (if nat_lt 1 (length self.now.cells.items) then cell_at self.now.cells.items path.now else None) }
+        ensures within { IfSome result (λ t. t < length self.now.cells.items) }
+    {
+        if self.cells.len() > 1 && all_codes(path) {
+            self.walk(path)
+        } else {
+            None
         }
     }
-    n
+
+    // The number of the leaf that the path leads to.
+    pub(super) fn number_at(&self, path: &[u16]) -> Option<u32>
+        ensures { result ≡ number_at self.now.cells.items path.now }
+    {
+        let t = self.cell_at(path)?;
+        leaf_number(self.cells[t].base)
+    }
+
+    // How many codes lead to the cell `t`.
+    pub(super) fn path_length(&self, t: usize) -> usize
+        requires upward { Upward self.now.cells.items }
+        requires used { 0 < parent self.now.cells.items t }
+        ensures { result ≡ length (path_to self.now.cells.items t) }
+    {
+        let mut s = t;
+        for n in 0..self.cells.len() {
+            if s == 1 {
+                return n;
+            }
+            s = self.parent(s);
+        }
+        self.cells.len()
+    }
+
+    // Writes the path that leads to the cell `t` into `out`, which is as long as the path.
+    pub(super) fn write_path(&self, t: usize, out: &mut [u16])
+        requires upward { Upward self.now.cells.items }
+        requires used { 0 < parent self.now.cells.items t }
+        requires long { length out.old ≡ length (path_to self.now.cells.items t) }
+        ensures { out.new ≡ path_to self.now.cells.items t }
+    {
+        let mut s = t;
+        for i in (0..out.len()).rev() {
+            let above = self.parent(s);
+            out[i] = (s - self.base(above)) as u16;
+            s = above;
+        }
+    }
+
+    // The leaf of the number, by the index.
+    pub(super) fn leaf_of(&self, number: u32) -> Option<usize>
+        ensures { result ≡ (if is_known self.now.index.items number then Some (slice_index self.now.index.items (number - 1)) else None) }
+    {
+        let entry = number.checked_sub(1)?;
+        let t = *self.index.get(entry as usize)?;
+        (t > 0).then_some(t as usize)
+    }
+
+    // Writes the path of the number into the front of `out` and says its length, or writes nothing where the number has no
+    // leaf or `out` is too short.
+    pub(super) fn path_of(&self, number: u32, out: &mut [u16]) -> Result<usize, NumberFault>
+        requires upward { Upward self.now.cells.items }
+        requires leaves { Pointed self.now.cells.items self.now.index.items }
+        ensures { Written self.now.cells.items self.now.index.items number out.old result out.new }
+    {
+        let t = self.leaf_of(number).ok_or(NumberFault::Unknown)?;
+        let n = self.path_length(t);
+        if out.len() < n {
+            return Err(NumberFault::Short);
+        }
+        self.write_path(t, &mut out[0..n]);
+        Ok(n)
+    }
+
+    // How many cells are in use.
+    pub(super) fn in_use(&self) -> usize
+        ensures { result ≡ in_use self.now.cells.items }
+    {
+        self.cells
+            .iter()
+            .skip(1)
+            .filter(|cell| cell.check > 0)
+            .count()
+    }
 }

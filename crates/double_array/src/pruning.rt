@@ -1,56 +1,57 @@
 // Taking a path out: its leaf is freed, and each cell above it that has no child left.
-ghost use Rattle.std.specs.Prelude.{◌≡◌, ◌^◌, ◌<◌, length};
+ghost use Rattle.std.specs.Prelude.{◌≡◌, ◌<◌, length, IfNone};
 ghost use Rattle.cells.specs.Pruning.{prune as pruned, root_reset};
+ghost use Rattle.double_array.specs.Buffers.{SameBuffers};
 ghost use Rattle.double_array.specs.Outcomes.{Parented, Taken};
 
-use super::edges::has_child;
-use super::paths::{cell_at, leaf_number};
-use super::placing::{cell_number, note_leaf};
+use super::nodes::Nodes;
+use super::paths::leaf_number;
 use cells::Cell;
 
-// Frees the cell `t` and then each cell above it that has no child left, at most `n` cells.
-pub(super) fn prune(cells: &mut [Cell], t: usize, n: usize)
-    requires room { length cells.old < 2 ^ 31 }
-    requires within { t < length cells.old }
-    requires parents { Parented cells.old }
-    ensures { cells.new ≡ pruned n cells.old t }
-{
-    let mut s = t;
-    for _ in 0..n {
-        let above = cell_number(cells[s].check);
-        cells[s] = Cell::FREE;
-        if has_child(cells, above) {
-            return;
+impl Nodes {
+    // Frees the cell `t` and then each cell above it that has no child left, at most `n` cells.
+    pub(super) fn prune(&mut self, t: usize, n: usize)
+        requires within { t < length self.old.cells.items }
+        requires parents { Parented self.old.cells.items }
+        ensures cells { self.new.cells.items ≡ pruned n self.old.cells.items t }
+        ensures index { self.new.index ≡ self.old.index }
+        ensures kept { SameBuffers self.old self.new }
+    {
+        let mut s = t;
+        for _ in 0..n {
+            let above = self.parent(s);
+            self.cells[s] = Cell::FREE;
+            if self.has_child(above) {
+                return;
+            }
+            s = above;
         }
-        s = above;
     }
-}
 
-// Gives a root without children the base 1.
-pub(super) fn reset_root(cells: &mut [Cell])
-    requires two { 1 < length cells.old }
-    requires room { length cells.old < 2 ^ 31 }
-    ensures { cells.new ≡ root_reset cells.old }
-{
-    if !has_child(cells, 1) {
-        cells[1] = Cell::ROOT;
+    // Gives a root without children the base 1.
+    pub(super) fn reset_root(&mut self)
+        requires { 1 < length self.old.cells.items }
+        ensures cells { self.new.cells.items ≡ root_reset self.old.cells.items }
+        ensures index { self.new.index ≡ self.old.index }
+        ensures kept { SameBuffers self.old self.new }
+    {
+        if !self.has_child(1) {
+            self.cells[1] = Cell::ROOT;
+        }
     }
-}
 
-// Takes the path out and says its number, or changes nothing where the path is not held.
-pub(super) fn take_out(cells: &mut [Cell], index: &mut [u32], path: &[u16]) -> Option<u32>
-    requires room { length cells.old < 2 ^ 31 }
-    requires parents { 1 < length cells.old → Parented cells.old }
-    ensures { Taken cells.old index.old path.now result cells.new index.new }
-{
-    if cells.len() < 2 {
-        return None;
+    // Takes the path out and says its number, or changes nothing where the path is not held.
+    pub(super) fn take_out(&mut self, path: &[u16]) -> Option<u32>
+        requires { 1 < length self.old.cells.items → Parented self.old.cells.items }
+        ensures cells { Taken self.old.cells.items self.old.index.items path.now result self.new.cells.items self.new.index.items }
+        ensures kept { SameBuffers self.old self.new }
+    {
+        let t = self.cell_at(path)?;
+        let base = self.cells[t].base;
+        let number = leaf_number(base)?;
+        self.prune(t, path.len());
+        self.reset_root();
+        self.note_leaf(base, 0);
+        Some(number)
     }
-    let t = cell_at(cells, path)?;
-    let base = cells[t].base;
-    let number = leaf_number(base)?;
-    prune(cells, t, path.len());
-    reset_root(cells);
-    note_leaf(index, base, 0);
-    Some(number)
 }

@@ -9,6 +9,7 @@ use super::codes::{read_code, write_code};
 use super::table::LinkTable;
 use super::triple::Triple;
 use cells::Cell;
+use double_array::DoubleArray;
 
 impl LinkTable {
     // The link number of the triple, or none.
@@ -51,6 +52,13 @@ impl LinkTable {
         ensures { result ≡ limit_of self.now }
     {
         self.index().len()
+    }
+
+    // The double array, to look at.
+    pub fn array(&self) -> &DoubleArray
+        ensures { result.now ≡ self.now.array }
+    {
+        &self.array
     }
 
     // The cells, to look at.

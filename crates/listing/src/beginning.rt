@@ -3,7 +3,6 @@ ghost use Rattle.std.specs.Prelude.{◌≡◌, ◌+◌, ◌/◌, ◌%◌, [], �
 ghost use Rattle.double_array.specs.Views.{cells_of};
 ghost use Rattle.listing.specs.Parts.{leads_on};
 
-use double_array::cell_at;
 use link_table::LinkTable;
 
 // The codes with which the paths of the triples of x by the relation begin.
@@ -18,6 +17,5 @@ pub(super) fn beginning(x: u16, relation: u8) -> [u16; 3]
 pub(super) fn leads(table: &LinkTable, codes: &[u16]) -> bool
     ensures { result ≡ leads_on (cells_of table.now.array) codes.now }
 {
-    let cells = table.cells();
-    cells.len() > 1 && cell_at(cells, codes).is_some()
+    table.array().cell_at(codes).is_some()
 }

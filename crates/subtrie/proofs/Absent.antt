@@ -1,6 +1,6 @@
 -- Where nothing is below.
-use Rattle.std.proofs.Common.{◌≡◌, ℕ, zero, suc, ◌-◌, ◌<◌, List, [], ◌∷◌, ◌++◌, length, Some, None, Option, sym, refl, ap, ◌∙◌, ⊎_elim, arith}
-use Rattle.std.proofs.lemmas.Bool.{cases_eq, cond_both}
+use Rattle.std.proofs.Common.{◌≡◌, ℕ, zero, suc, ◌-◌, ◌<◌, cond, ltb, List, [], ◌∷◌, ◌++◌, length, Some, None, Option, sym, refl, ap, ◌∙◌, ⊎_elim, arith}
+use Rattle.std.proofs.lemmas.Bool.{cases_eq, cond_both, ltb-false}
 use Rattle.output.specs.Written.{written}
 use Rattle.output.proofs.Writes.{written_none}
 use Rattle.cells.specs.declared.Cell.{Cell}
@@ -40,3 +40,10 @@ module _ (cs : List Cell) (few : length cs < 2) where
   pub numbers_few : (p : List ℕ) → numbers_from cs p ≡ []
   numbers_few p =
       cond_both (all_codes p) (walk cs 1 p) None (λ (o : Option ℕ). at_found (numbers_below (length cs) cs) o ≡ []) (λ c. walked p) (λ c. refl)
+
+-- a beginning that leads to no cell, or an array without a root
+pub numbers_absent : (cs : List Cell) (p : List ℕ) → None ≡ cond (ltb 1 (length cs)) (cell_at cs p) None → numbers_from cs p ≡ []
+numbers_absent cs p =
+    cond_both (ltb 1 (length cs)) (cell_at cs p) None (λ o. None ≡ o → numbers_from cs p ≡ [])
+    (λ two none. numbers_none cs p (sym none))
+    (λ few none. let short : length cs < 2 = omega (arith, ltb-false 1 (length cs) few) in numbers_few cs short p)

@@ -7,40 +7,34 @@
 mod room;
 mod writing;
 
-ghost use Rattle.std.specs.Prelude.{◌≡◌, ◌^◌, ◌<◌, length};
+ghost use Rattle.std.specs.Prelude.{◌≡◌};
 ghost use Rattle.cells.specs.Cells.{at, number};
 ghost use Rattle.double_array.specs.Views.{cells_of, index_of};
 ghost use Rattle.subtrie.specs.Below.{numbers_from, Filled};
 ghost use Rattle.subtrie.specs.Laws.{Listed, Members, Ordered};
 
-use cells::Cell;
-use double_array::{DoubleArray, cell_at, leaf_number};
+use double_array::{DoubleArray, leaf_number};
 use room::room_below;
 use writing::write_below;
 
 // The number of the cell `s`, if it is a leaf.
-fn leaf_at(cells: &[Cell], s: usize) -> Option<u32>
-    requires { s < length cells.now }
-    ensures { result ≡ number (at cells.now s).base }
+fn leaf_at(array: &DoubleArray, s: usize) -> Option<u32>
+    ensures { result ≡ number (at (cells_of array.now) s).base }
 {
-    leaf_number(cells[s].base)
+    leaf_number(array.cells().get(s)?.base)
 }
 
 // Writes the numbers below the beginning into `out` from its start and answers how many, or writes
 // nothing and answers none where `out` is too short.
-fn write_from(cells: &[Cell], beginning: &[u16], out: &mut [u32]) -> Option<usize>
-    requires { length cells.now < 2 ^ 31 }
-    ensures { Filled (numbers_from cells.now beginning.now) out.old result out.new }
+fn write_from(array: &DoubleArray, beginning: &[u16], out: &mut [u32]) -> Option<usize>
+    ensures { Filled (numbers_from (cells_of array.now) beginning.now) out.old result out.new }
 {
-    if cells.len() < 2 {
-        return Some(0);
-    }
-    let Some(s) = cell_at(cells, beginning) else {
+    let Some(s) = array.cell_at(beginning) else {
         return Some(0);
     };
-    let left = cells.len();
-    room_below(cells, s, left, out.len())?;
-    Some(write_below(cells, s, left, out, 0))
+    let left = array.cells().len();
+    room_below(array, s, left, out.len())?;
+    Some(write_below(array, s, left, out, 0))
 }
 
 // Writes the numbers of all held paths that begin with `beginning` into `out` from its start, in
@@ -52,5 +46,5 @@ pub fn numbers_below(array: &DoubleArray, beginning: &[u16], out: &mut [u32]) ->
     ensures members { Members (cells_of array.now) beginning.now (numbers_from (cells_of array.now) beginning.now) }
     ensures order { Ordered (cells_of array.now) (index_of array.now) (numbers_from (cells_of array.now) beginning.now) }
 {
-    write_from(array.cells(), beginning, out)
+    write_from(array, beginning, out)
 }

@@ -10,5 +10,5 @@ decreases-room_edges l = 2 * l.left + 1
 
 abbrev pub invariant-room_edges-loop-code : goal.invariant-room_edges-loop-code
 invariant-room_edges-loop-code l =
-    room_after l.rest (edge_numbers (numbers_below l.left l.cells) l.cells l.s (258 - l.code))
-    ≡ room_after l.room (edge_numbers (numbers_below l.left l.cells) l.cells l.s 257)
+    room_after l.rest (edge_numbers (numbers_below l.left l.array.nodes.cells.items) l.array.nodes.cells.items l.s (258 - l.code))
+    ≡ room_after l.room (edge_numbers (numbers_below l.left l.array.nodes.cells.items) l.array.nodes.cells.items l.s 257)

@@ -13,6 +13,6 @@ decreases-write_edges l = 2 * l.left + 1
 -- what is left to write ends and leaves the output as all of it does
 abbrev pub invariant-write_edges-loop-code : goal.invariant-write_edges-loop-code
 invariant-write_edges-loop-code l =
-    Wrote l.out l.next (edge_numbers (numbers_below l.left l.cells) l.cells l.s (258 - l.code))
-    (l.at + length (edge_numbers (numbers_below l.left l.cells) l.cells l.s 257))
-    (written l.initial.out l.at (edge_numbers (numbers_below l.left l.cells) l.cells l.s 257))
+    Wrote l.out l.next (edge_numbers (numbers_below l.left l.array.nodes.cells.items) l.array.nodes.cells.items l.s (258 - l.code))
+    (l.at + length (edge_numbers (numbers_below l.left l.array.nodes.cells.items) l.array.nodes.cells.items l.s 257))
+    (written l.initial.out l.at (edge_numbers (numbers_below l.left l.array.nodes.cells.items) l.array.nodes.cells.items l.s 257))

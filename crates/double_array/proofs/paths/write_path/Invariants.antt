@@ -1,7 +1,0 @@
-use Rattle.std.proofs.Common.{◌≡◌, ◌-◌, ◌<◌, length, drop}
-use Rattle.cells.specs.Cells.{parent}
-use Rattle.cells.specs.Walking.{climb, path_to}
-use Rattle.double_array.proofs.paths.write_path.Given as goal
-
-abbrev pub invariant-loop-i : goal.invariant-loop-i
-invariant-loop-i l = (0 < parent l.cells l.s) × (climb (length l.cells - (length l.out - l.i)) l.cells l.s (drop l.i l.out) ≡ path_to l.cells l.t)
