@@ -1,5 +1,6 @@
 // The calls that change nothing.
-ghost use Rattle.std.specs.Prelude.{◌≡◌};
+ghost use Rattle.std.specs.Prelude.{◌≡◌, ◌-◌, ◌≤◌};
+ghost use Rattle.std.specs.List.{slice_get};
 ghost use Rattle.history.specs.Calls.{find_of, read_of, Lists, figures_of};
 ghost use Rattle.store.specs.Links.{word_kit, link_answer};
 
@@ -13,6 +14,15 @@ use record::Record;
 use refusal::{Refusal, Side};
 use script::Script;
 use word_triple::WordTriple;
+
+// The record of a link number, where the array reaches it.
+fn record_at<R: Record>(records: &[R], link: u32) -> Option<R>
+    requires { 1 ≤ link }
+    ensures { result ≡ slice_get records.now (link - 1) }
+{
+    let place = link as usize - 1;
+    records.get(place).copied()
+}
 
 impl RelationTable {
     // The numbers of both words and of their link by the relation, or none where a word or the
@@ -62,8 +72,7 @@ impl RelationTable {
         ensures { result ≡ read_of self.now.links records.now link }
     {
         let triple = self.links.triple_of(link).ok_or(Refusal::UnknownLink)?;
-        let place = link as usize - 1;
-        let record = *records.get(place).ok_or(Refusal::UnknownLink)?;
+        let record = record_at(records, link).ok_or(Refusal::UnknownLink)?;
         Ok(Reading { triple, record })
     }
 
