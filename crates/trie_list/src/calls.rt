@@ -10,7 +10,7 @@ use super::list::TrieList;
 use super::spelling::{write_labels, write_path};
 use cells::Cell;
 use double_array::DoubleArray;
-use lexicon::{GrowingList, ReadableList, has_label_size};
+use lexicon::{GrowingList, ReadableList, SoundList, has_label_size};
 use refusal::ListFault;
 use subtrie::numbers_below;
 
@@ -141,6 +141,10 @@ impl ReadableList for TrieList {
         let size = self.labels_of(number, &mut labels);
         output::put(out, 0, &labels[0..size]).ok_or(ListFault::OutputTooShort)
     }
+}
+
+impl SoundList for TrieList {
+    ghost always = { λ _. tt };
 }
 
 impl GrowingList for TrieList {
