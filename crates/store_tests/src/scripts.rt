@@ -9,6 +9,7 @@ use script::{MorphemeClass, MorphemeSign};
 use std::test::Fail;
 use store::RelationTable;
 use trie_list::TrieList;
+use word_triple::WordTriple;
 
 const ONE: Tally = Tally { count: 1 };
 
@@ -24,59 +25,32 @@ fn wide_words_by_requests(rt: HostRuntime) -> Result<(), Fail> {
         cells,
         vec![in heap; 0u32; 4]?,
     );
-    let mut rows = [LinkRow {
+    let blank = LinkRow {
         relation: 0,
         y: 0,
         link: 0,
-    }; 1];
+    };
+    let mut rows = [blank; 1];
     let x: [u16; 2] = [0x96e8, 0x5408];
     let y: [u16; 1] = [0x7fbd];
-    let added = perform_growing(
-        &mut table,
-        &mut list,
-        &mut records,
-        &mut rows,
-        GrowingRequest::Add {
-            x: &x,
-            y: &y,
-            relation: 3,
-            record: ONE,
-        },
-    );
-    assert_eq!(rt;
-        added,
-        Ok(Reply::Linked(Link {
-            x: 1,
-            y: 2,
-            number: 1,
-        }))
-    );
-    let found = perform(
-        &mut table,
-        &list,
-        &mut records,
-        &mut rows,
-        Request::Find {
-            x: &x,
-            y: &y,
-            relation: 3,
-        },
-    );
-    assert_eq!(rt;
-        found,
-        Ok(Reply::Found(Some(Link {
-            x: 1,
-            y: 2,
-            number: 1,
-        })))
-    );
-    let listed = perform(
-        &mut table,
-        &list,
-        &mut records,
-        &mut rows,
-        Request::List { x: &x, relation: 0 },
-    );
+    let words = WordTriple {
+        x: &x,
+        relation: 3,
+        y: &y,
+    };
+    let link = Link {
+        x: 1,
+        y: 2,
+        number: 1,
+    };
+    let add = GrowingRequest::Add { words, record: ONE };
+    let added = perform_growing(&mut table, &mut list, &mut records, &mut rows, add);
+    assert_eq!(rt; added, Ok(Reply::Linked(link)));
+    let find = Request::Find { words };
+    let found = perform(&mut table, &list, &mut records, &mut rows, find);
+    assert_eq!(rt; found, Ok(Reply::Found(Some(link))));
+    let ask = Request::List { x: &x, relation: 0 };
+    let listed = perform(&mut table, &list, &mut records, &mut rows, ask);
     assert_eq!(rt; listed, Ok(Reply::Listed(1)));
     assert_eq!(rt; rows[0].link, 1);
     Ok(())
@@ -102,18 +76,25 @@ fn morphemes(rt: HostRuntime) -> Result<(), Fail> {
         cells,
         vec![in heap; 0u32; 4]?,
     );
+    let words = WordTriple {
+        x: &[noun],
+        relation: 7,
+        y: &[verb],
+    };
+    let turned = WordTriple {
+        x: &[verb],
+        relation: 7,
+        y: &[noun],
+    };
     assert_eq!(rt;
-        table.add(&mut list, &mut records, &[noun], &[verb], 7, ONE),
+        table.add(&mut list, &mut records, words, ONE),
         Ok(Link {
             x: 1,
             y: 2,
             number: 1,
         })
     );
-    assert_eq!(rt;
-        table.delete(&list, &[verb], &[noun], 7),
-        Err(Refusal::TripleAbsent)
-    );
-    assert_eq!(rt; table.delete(&list, &[noun], &[verb], 7), Ok(1));
+    assert_eq!(rt; table.delete(&list, turned), Err(Refusal::TripleAbsent));
+    assert_eq!(rt; table.delete(&list, words), Ok(1));
     Ok(())
 }
