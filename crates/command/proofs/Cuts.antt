@@ -1,25 +1,27 @@
 -- Laws of `fields`: up to the first tab, without a tab, and how many there are.
-use Rattle.std.proofs.Common.{◌≡◌, ℕ, zero, suc, ◌<◌, ◌≤◌, eqb, List, [], ◌∷◌, length, get_or, take, drop, refl, ap, ◌∙◌, arith}
-use Rattle.std.proofs.lemmas.Bool.{eq-eqb, ne_eqb, cond-true, cond-false, cond_both}
-use Rattle.command.specs.Fields.{before_first, fields}
+use Rattle.std.proofs.Common.{◌≡◌, ℕ, zero, suc, ◌≤◌, Bool, true, false, List, [], ◌∷◌, length, take, drop, Some, None, sym, refl, ap, ◌∙◌, arith, eqb}
+use Rattle.std.specs.List.{position}
+use Rattle.std.proofs.lemmas.Bool.{cond-true, cond-false, cond_both}
+use Rattle.command.specs.Fields.{is_tab, before_first, fields}
 
--- no tab stands before a place
-abbrev pub NoTab : List ℕ → ℕ → Type 0
-NoTab s i = (k : ℕ) → k < i → get_or s k 0 ≡ 9 → ⊥
-
-pub fields_none : (s : List ℕ) → NoTab s (length s) → fields s ≡ s ∷ []
+pub fields_none : (s : List ℕ) → None ≡ position is_tab s → fields s ≡ s ∷ []
 unfolding fields
-fields_none [] clear = refl
-fields_none (b ∷ bs) clear =
-    cond-false (eqb b 9) _ _ (ne_eqb b 9 (clear 0 (omega arith))) ∙ ap (before_first b) (fields_none bs (λ k less. clear (suc k) (omega arith)))
+fields_none [] e = refl
+fields_none (b ∷ bs) e = by (fields_none bs) (is_tab b) refl
+  where
+    by : (None ≡ position is_tab bs → fields bs ≡ bs ∷ []) → (t : Bool) → is_tab b ≡ t → fields (b ∷ bs) ≡ (b ∷ bs) ∷ []
+    by rest true h = absurd (grind (arith, e, h))
+    by rest false h = cond-false (is_tab b) _ _ h ∙ ap (before_first b) (rest (grind (arith, e, h)))
 
-pub fields_at : (s : List ℕ) (i : ℕ) → i < length s → get_or s i 0 ≡ 9 → NoTab s i → fields s ≡ take i s ∷ fields (drop (suc i) s)
+pub fields_at : (s : List ℕ) (i : ℕ) → Some i ≡ position is_tab s → fields s ≡ take i s ∷ fields (drop (suc i) s)
 unfolding fields
-fields_at [] i within tab clear = absurd (omega arith)
-fields_at (b ∷ bs) zero within tab clear = cond-true (eqb b 9) _ _ (eq-eqb b 9 tab)
-fields_at (b ∷ bs) (suc i) within tab clear =
-    cond-false (eqb b 9) _ _ (ne_eqb b 9 (clear 0 (omega arith)))
-    ∙ ap (before_first b) (fields_at bs i (omega arith) tab (λ k less. clear (suc k) (omega arith)))
+fields_at [] i e = absurd (grind (arith, e))
+fields_at (b ∷ bs) i e = by (fields_at bs) (is_tab b) refl i e
+  where
+    by : ((i : ℕ) → Some i ≡ position is_tab bs → fields bs ≡ take i bs ∷ fields (drop (suc i) bs)) → (t : Bool) → is_tab b ≡ t → (i : ℕ) → Some i ≡ position is_tab (b ∷ bs) → fields (b ∷ bs) ≡ take i (b ∷ bs) ∷ fields (drop (suc i) (b ∷ bs))
+    by rest true h i e = let first : i ≡ 0 = grind (arith, e, h) in cond-true (is_tab b) _ _ h ∙ ap (λ (n : ℕ). take n (b ∷ bs) ∷ fields (drop (suc n) (b ∷ bs))) (sym first)
+    by rest false h zero e = absurd (grind (arith, e, h))
+    by rest false h (suc i) e = cond-false (is_tab b) _ _ h ∙ ap (before_first b) (rest i (grind (arith, e, h)))
 
 -- there is a field at least
 some_before : (b : ℕ) (fs : List (List ℕ)) → 1 ≤ length (before_first b fs)

@@ -18,11 +18,11 @@ pub data Asked : Type 0 where
 
 -- what a command of the code says
 abbrev pub seen : Command → Asked
-seen (Add x y relation count) = add x.now y.now relation count
-seen (Tie x y relation count) = tie x.now y.now relation count
-seen (Delete x y relation) = delete x.now y.now relation
-seen (Find x y relation) = find x.now y.now relation
-seen (Share x y relation) = share x.now y.now relation
+seen (Add words count) = add words.x.now words.y.now words.relation count
+seen (Tie words count) = tie words.x.now words.y.now words.relation count
+seen (Delete words) = delete words.x.now words.y.now words.relation
+seen (Find words) = find words.x.now words.y.now words.relation
+seen (Share words) = share words.x.now words.y.now words.relation
 seen (ListOf x relation) = list x.now relation
 
 -- the field at a place, counted from 0

@@ -5,15 +5,16 @@
 // The rules stand in docs/LINES.md.
 #![tactic(auto)]
 
-ghost use Rattle.std.specs.Prelude.{◌≡◌, ℕ, ◌^◌, ◌<◌, ◌≤◌, ◌≢◌, [], ◌∷◌, length, IfSome, Some, None, MatchOption, MatchResult};
+ghost use Rattle.std.specs.Prelude.{◌≡◌, ℕ, ◌^◌, ◌<◌, ◌≤◌, ◌≢◌, [], ◌∷◌, length, IfSome, Some, None, MatchOption, MatchResult, position};
 ghost use Rattle.std.specs.Option.{option_map};
 ghost use Rattle.refusal.specs.declared.Refusal.TheVariants.{MalformedLine};
-ghost use Rattle.command.specs.Fields.{fields};
+ghost use Rattle.command.specs.Fields.{is_tab, fields};
 ghost use Rattle.command.specs.Numbers.{number_of, ReadsBack};
-ghost use Rattle.command.specs.Commands.{seen, word_fields, pair_fields, count_fields, add_asked, tie_asked, letter_asks, asked_by};
+ghost use Rattle.command.specs.Commands.{seen, word_fields, pair_fields, count_fields, letter_asks, asked_by};
 ghost use Rattle.command.specs.Lines.{OneToOne};
 
 use refusal::Refusal;
+use word_triple::WordTriple;
 
 #[cfg(test)]
 mod tests;
@@ -30,54 +31,32 @@ const LAST_COUNT: u32 = 4_294_967_295;
 #[derive(Clone, Copy, Debug)]
 pub enum Command<'a> {
     // Enters X and Y, and their triple with the count.
-    Add {
-        x: &'a [u8],
-        y: &'a [u8],
-        relation: u8,
-        count: u32,
-    },
+    Add { words: WordTriple<'a, u8>, count: u32 },
     // Enters the triple of words that the list has, with the count.
-    Tie {
-        x: &'a [u8],
-        y: &'a [u8],
-        relation: u8,
-        count: u32,
-    },
+    Tie { words: WordTriple<'a, u8>, count: u32 },
     // Takes the triple out.
-    Delete {
-        x: &'a [u8],
-        y: &'a [u8],
-        relation: u8,
-    },
+    Delete(WordTriple<'a, u8>),
     // Asks for the triple's words and count.
-    Find {
-        x: &'a [u8],
-        y: &'a [u8],
-        relation: u8,
-    },
+    Find(WordTriple<'a, u8>),
     // Asks for the triple's share.
-    Share {
-        x: &'a [u8],
-        y: &'a [u8],
-        relation: u8,
-    },
+    Share(WordTriple<'a, u8>),
     // Asks for what X is related to.
-    List {
-        x: &'a [u8],
-        relation: u8,
-    },
+    List { x: &'a [u8], relation: u8 },
+}
+
+// Where the first tab stands.
+fn first_tab(text: &[u8]) -> Option<usize>
+    ensures { result ≡ position is_tab text.now }
+{
+    text.iter().position(|byte| *byte == b'\t')
 }
 
 // The first field and the rest after its tab; none where there is no tab.
 fn cut(text: &[u8]) -> Option<(&[u8], &[u8])>
     ensures { MatchOption result (fields text.now ≡ text.now ∷ []) (λ p. fields text.now ≡ p.0.now ∷ fields p.1.now) }
 {
-    for (i, byte) in text.iter().enumerate() {
-        if *byte == b'\t' {
-            return Some((&text[0..i], &text[i + 1..]));
-        }
-    }
-    None
+    let tab = first_tab(text)?;
+    Some((&text[..tab], &text[tab + 1..]))
 }
 
 // The fields where there are just two.
@@ -149,48 +128,22 @@ fn word_fields(rest: &[u8]) -> Option<(&[u8], u8)>
 }
 
 // The fields of D, F and S: X, Y and the relation.
-fn pair_fields(rest: &[u8]) -> Option<(&[u8], &[u8], u8)>
-    ensures { option_map (λ p. (p.0.now, p.1.now, p.2)) result ≡ pair_fields (fields rest.now) }
+fn triple_fields(rest: &[u8]) -> Option<WordTriple<'_, u8>>
+    ensures { option_map (λ w. (w.x.now, w.y.now, w.relation)) result ≡ pair_fields (fields rest.now) }
 {
     let (x, y, digits) = three(rest)?;
     let relation = relation_in(digits)?;
-    Some((x, y, relation))
+    Some(WordTriple { x, relation, y })
 }
 
 // The fields of A and T: X, Y, the relation and the count.
-fn count_fields(rest: &[u8]) -> Option<(&[u8], &[u8], u8, u32)>
-    ensures { option_map (λ p. (p.0.now, p.1.now, p.2, p.3)) result ≡ count_fields (fields rest.now) }
+fn count_fields(rest: &[u8]) -> Option<(WordTriple<'_, u8>, u32)>
+    ensures { option_map (λ p. (p.0.x.now, p.0.y.now, p.0.relation, p.1)) result ≡ count_fields (fields rest.now) }
 {
     let (x, y, digits, more) = four(rest)?;
     let relation = relation_in(digits)?;
     let count = number(more, LAST_COUNT)?;
-    Some((x, y, relation, count))
-}
-
-// An add, by its fields.
-fn add_of(rest: &[u8]) -> Option<Command<'_>>
-    ensures { option_map seen result ≡ add_asked (fields rest.now) }
-{
-    let (x, y, relation, count) = count_fields(rest)?;
-    Some(Command::Add {
-        x,
-        y,
-        relation,
-        count,
-    })
-}
-
-// A tie, by its fields.
-fn tie_of(rest: &[u8]) -> Option<Command<'_>>
-    ensures { option_map seen result ≡ tie_asked (fields rest.now) }
-{
-    let (x, y, relation, count) = count_fields(rest)?;
-    Some(Command::Tie {
-        x,
-        y,
-        relation,
-        count,
-    })
+    Some((WordTriple { x, relation, y }, count))
 }
 
 // What a letter with its fields asks for.
@@ -198,24 +151,12 @@ fn letter_asks(letter: char, rest: &[u8]) -> Option<Command<'_>>
     ensures { option_map seen result ≡ letter_asks letter (fields rest.now) }
 {
     match letter {
-        'A' => add_of(rest),
-        'T' => tie_of(rest),
-        'D' => {
-            let (x, y, relation) = pair_fields(rest)?;
-            Some(Command::Delete { x, y, relation })
-        }
-        'F' => {
-            let (x, y, relation) = pair_fields(rest)?;
-            Some(Command::Find { x, y, relation })
-        }
-        'S' => {
-            let (x, y, relation) = pair_fields(rest)?;
-            Some(Command::Share { x, y, relation })
-        }
-        'L' => {
-            let (x, relation) = word_fields(rest)?;
-            Some(Command::List { x, relation })
-        }
+        'A' => count_fields(rest).map(|(words, count)| Command::Add { words, count }),
+        'T' => count_fields(rest).map(|(words, count)| Command::Tie { words, count }),
+        'D' => triple_fields(rest).map(Command::Delete),
+        'F' => triple_fields(rest).map(Command::Find),
+        'S' => triple_fields(rest).map(Command::Share),
+        'L' => word_fields(rest).map(|(x, relation)| Command::List { x, relation }),
         _ => None,
     }
 }
@@ -234,8 +175,5 @@ pub fn parse(line: &[u8]) -> Result<Command<'_>, Refusal>
     let [letter, b'\t', rest @ ..] = line else {
         return Err(Refusal::MalformedLine);
     };
-    match letter_asks(char::from(*letter), rest) {
-        Some(command) => Ok(command),
-        None => Err(Refusal::MalformedLine),
-    }
+    letter_asks(char::from(*letter), rest).ok_or(Refusal::MalformedLine)
 }

@@ -10,21 +10,11 @@ type Parts<'a> = (u8, &'a [u8], &'a [u8], u8, u32);
 
 fn parts(command: Command<'_>) -> Parts<'_> {
     match command {
-        Command::Add {
-            x,
-            y,
-            relation,
-            count,
-        } => (b'A', x, y, relation, count),
-        Command::Tie {
-            x,
-            y,
-            relation,
-            count,
-        } => (b'T', x, y, relation, count),
-        Command::Delete { x, y, relation } => (b'D', x, y, relation, 0),
-        Command::Find { x, y, relation } => (b'F', x, y, relation, 0),
-        Command::Share { x, y, relation } => (b'S', x, y, relation, 0),
+        Command::Add { words, count } => (b'A', words.x, words.y, words.relation, count),
+        Command::Tie { words, count } => (b'T', words.x, words.y, words.relation, count),
+        Command::Delete(words) => (b'D', words.x, words.y, words.relation, 0),
+        Command::Find(words) => (b'F', words.x, words.y, words.relation, 0),
+        Command::Share(words) => (b'S', words.x, words.y, words.relation, 0),
         Command::List { x, relation } => (b'L', x, &[], relation, 0),
     }
 }

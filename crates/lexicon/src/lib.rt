@@ -38,6 +38,11 @@ pub trait ReadableList {
     ghost lawful: { (s : Self) → sound s → Lawful (roll s) };
 }
 
+// A list of which every value is sound: what a call says of a sound list, it says of each.
+pub trait SoundList: ReadableList {
+    ghost always: { (s : Self) → Self.sound s };
+}
+
 pub trait GrowingList: ReadableList {
     // There is room for the new word.
     ghost room: { Self → List ℕ → Bool };

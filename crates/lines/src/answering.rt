@@ -2,7 +2,7 @@
 ghost use Rattle.std.specs.Prelude.{◌≡◌, Some};
 ghost use Rattle.history.specs.Kits.{state_of};
 ghost use Rattle.requests.specs.Requests.{growing_call_of};
-ghost use Rattle.command.specs.Commands.{seen, add as add_asked, tie as tie_asked, find as find_asked, list as list_asked, share as share_asked};
+ghost use Rattle.command.specs.Commands.{seen, find as find_asked, list as list_asked, share as share_asked};
 ghost use Rattle.line_text.specs.Texts.{answer_text};
 ghost use Rattle.lines.specs.Lines.{Carried, Done, found_text, listed_text};
 
@@ -13,13 +13,17 @@ use line_text::LineAnswer;
 use listing::LinkRow;
 use record::Tally;
 use refusal::Refusal;
-use requests::{GrowingRequest, perform_growing};
+use requests::{GrowingRequest, Request, perform_growing};
 use share::{count_at, share};
 use store::RelationTable;
 use trie_list::TrieList;
+use word_triple::WordTriple;
 
 // The most rows that a listing prints.
 const ROWS: usize = 100;
+
+// The list, the table and the records are handed on side by side, here and below: a store is no
+// value of its own, and a call takes what it needs of the three.
 
 // Makes a call that is only said to be done.
 fn done(
@@ -33,50 +37,6 @@ fn done(
     let mut nowhere: [LinkRow; 0] = [];
     perform_growing(table, list, records, &mut nowhere, request)?;
     Ok(LineAnswer::Done)
-}
-
-// Adds a triple with its count.
-fn added<'a>(
-    table: &mut RelationTable,
-    list: &mut TrieList,
-    records: &mut [Tally],
-    x: &'a [u8],
-    y: &'a [u8],
-    relation: u8,
-    count: u32,
-) -> Result<LineAnswer, Refusal>
-    ensures { Carried (state_of list.old table.old.links records.old) (Some (add_asked x.now y.now relation count)) (answer_text result) (state_of list.new table.new.links records.new) }
-{
-    let record = Tally { count };
-    let request = GrowingRequest::Add {
-        x,
-        y,
-        relation,
-        record,
-    };
-    done(table, list, records, request)
-}
-
-// Ties two known words, with a count.
-fn tied<'a>(
-    table: &mut RelationTable,
-    list: &mut TrieList,
-    records: &mut [Tally],
-    x: &'a [u8],
-    y: &'a [u8],
-    relation: u8,
-    count: u32,
-) -> Result<LineAnswer, Refusal>
-    ensures { Carried (state_of list.old table.old.links records.old) (Some (tie_asked x.now y.now relation count)) (answer_text result) (state_of list.new table.new.links records.new) }
-{
-    let record = Tally { count };
-    let request = GrowingRequest::Tie {
-        x,
-        y,
-        relation,
-        record,
-    };
-    done(table, list, records, request)
 }
 
 // What is printed of a link that was sought.
@@ -98,24 +58,17 @@ fn found_answer(
 }
 
 // Finds a triple, with its count.
-fn found<'a>(
+fn found(
     table: &mut RelationTable,
     list: &mut TrieList,
     records: &mut [Tally],
-    x: &'a [u8],
-    y: &'a [u8],
-    relation: u8,
+    words: WordTriple<'_, u8>,
 ) -> Result<LineAnswer, Refusal>
-    ensures { Carried (state_of list.old table.old.links records.old) (Some (find_asked x.now y.now relation)) (answer_text result) (state_of list.new table.new.links records.new) }
+    ensures { Carried (state_of list.old table.old.links records.old) (Some (find_asked words.entry.x.now words.entry.y.now words.entry.relation)) (answer_text result) (state_of list.new table.new.links records.new) }
 {
     let mut nowhere: [LinkRow; 0] = [];
-    let reply = perform_growing(
-        table,
-        list,
-        records,
-        &mut nowhere,
-        GrowingRequest::Find { x, y, relation },
-    );
+    let request = GrowingRequest::Other(Request::Find { words });
+    let reply = perform_growing(table, list, records, &mut nowhere, request);
     found_answer(records, reply)
 }
 
@@ -152,13 +105,8 @@ fn listed(
         y: 0,
         link: 0,
     }; ROWS];
-    let reply = perform_growing(
-        table,
-        list,
-        records,
-        &mut rows,
-        GrowingRequest::List { x, relation },
-    );
+    let request = GrowingRequest::Other(Request::List { x, relation });
+    let reply = perform_growing(table, list, records, &mut rows, request);
     listed_answer(records, &rows, reply)
 }
 
@@ -167,13 +115,11 @@ fn shared(
     table: &RelationTable,
     list: &TrieList,
     records: &[Tally],
-    x: &[u8],
-    y: &[u8],
-    relation: u8,
+    words: WordTriple<'_, u8>,
 ) -> Result<LineAnswer, Refusal>
-    ensures { Carried (state_of list.now table.now.links records.now) (Some (share_asked x.now y.now relation)) (answer_text result) (state_of list.now table.now.links records.now) }
+    ensures { Carried (state_of list.now table.now.links records.now) (Some (share_asked words.entry.x.now words.entry.y.now words.entry.relation)) (answer_text result) (state_of list.now table.now.links records.now) }
 {
-    Ok(LineAnswer::Share(share(table, list, records, x, y, relation)?))
+    Ok(LineAnswer::Share(share(table, list, records, words)?))
 }
 
 // Carries out a command and says what is to be printed.
@@ -186,26 +132,17 @@ pub(super) fn answer(
     ensures { Carried (state_of list.old table.old.links records.old) (Some (seen command.entry)) (answer_text result) (state_of list.new table.new.links records.new) }
 {
     match command {
-        Command::Add {
-            x,
-            y,
-            relation,
-            count,
-        } => added(table, list, records, x, y, relation, count),
-        Command::Tie {
-            x,
-            y,
-            relation,
-            count,
-        } => tied(table, list, records, x, y, relation, count),
-        Command::Delete { x, y, relation } => done(
-            table,
-            list,
-            records,
-            GrowingRequest::Delete { x, y, relation },
-        ),
-        Command::Find { x, y, relation } => found(table, list, records, x, y, relation),
+        Command::Add { words, count } => {
+            let record = Tally { count };
+            done(table, list, records, GrowingRequest::Add { words, record })
+        }
+        Command::Tie { words, count } => {
+            let record = Tally { count };
+            done(table, list, records, GrowingRequest::Other(Request::Tie { words, record }))
+        }
+        Command::Delete(words) => done(table, list, records, GrowingRequest::Other(Request::Delete { words })),
+        Command::Find(words) => found(table, list, records, words),
         Command::List { x, relation } => listed(table, list, records, x, relation),
-        Command::Share { x, y, relation } => shared(table, list, records, x, y, relation),
+        Command::Share(words) => shared(table, list, records, words),
     }
 }

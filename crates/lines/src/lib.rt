@@ -58,8 +58,5 @@ pub fn perform_line(
         return Err(Refusal::OutputTooShort);
     }
     let answer = answer_line(table, list, records, line);
-    match write_answer(&answer, out) {
-        Some(size) => Ok(size),
-        None => Err(Refusal::OutputTooShort),
-    }
+    write_answer(&answer, out).ok_or(Refusal::OutputTooShort)
 }

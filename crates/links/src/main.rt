@@ -9,7 +9,7 @@ use lines::perform_line;
 use record::Tally;
 use std::io;
 use std::io::{BufRead, BufReader, BufWriter, Write};
-use stores::trie_tallies;
+use stores::new_store;
 use trie_list::TrieList;
 
 // How many cells each cell array has, and how many words and records there are.
@@ -28,11 +28,13 @@ fn main(rt: HostRuntime) -> io::Result<()> {
     let mut records = vec![in heap; Tally { count: 0 }; RECORD_PLACES]?;
     let cells = vec![in heap; Cell::FREE; CELL_PLACES]?;
     let index = vec![in heap; 0u32; RECORD_PLACES]?;
-    let mut table = trie_tallies(&list, records.as_slice(), cells, index);
+    let mut table = new_store::<u8, TrieList, Tally>(&list, records.as_slice(), cells, index);
     let mut input = BufReader::new(heap, rt.stdin())?;
     let mut output = BufWriter::new(heap, rt.stdout())?;
     let mut read = Vec::new(heap);
     let mut text = vec![in heap; 0u8; 4096]?;
+    // A count, since a `loop` over input has no end that could be proved; the library's iterator over
+    // lines reads text alone, and does not tell a last line without a feed.
     for _ in 0..u64::MAX {
         read.clear();
         input.read_until(b'\n', &mut read)?;

@@ -8,15 +8,15 @@
 
 use cells::Cell;
 use history::Reply;
-use lexicon::ReadableList;
 use listing::LinkRow;
 use record::Tally;
 use refusal::Refusal;
-use requests::{GrowingRequest, perform_growing};
+use requests::{GrowingRequest, Request, perform_growing};
 use std::io;
 use store::RelationTable;
-use stores::trie_tallies;
+use stores::new_store;
 use trie_list::TrieList;
+use word_triple::WordTriple;
 
 // How many link numbers there are.
 const LINKS: usize = 16;
@@ -86,16 +86,25 @@ fn show(rt: &HostRuntime, what: &str, reply: Result<Reply<Tally>, Refusal>) -> i
     }
 }
 
+// Makes one call and prints what it replied.
+fn ask(
+    rt: &HostRuntime,
+    store: &mut Store,
+    what: &str,
+    request: GrowingRequest<'_, u8, Tally>,
+) -> io::Result<()> {
+    let reply = call(store, request);
+    show(rt, what, reply)
+}
+
 // Prints each link number whose leaf has moved, and what reading it gives.
 fn show_moves(rt: &HostRuntime, store: &mut Store, before: &[u32; LINKS]) -> io::Result<()> {
     let after = leaves(store);
-    let mut number = 0u32;
-    for (old, new) in before.iter().zip(after.iter()) {
-        number = number.saturating_add(1);
+    for (place, (old, new)) in before.iter().zip(after.iter()).enumerate() {
         if *old != 0 && *new != 0 && *old != *new {
-            print!(rt; "  link {number} moved from cell {old} to cell {new}; ")?;
-            let reply = call(store, GrowingRequest::reading(number));
-            show(rt, "it reads", reply)?;
+            let link = place as u32 + 1;
+            print!(rt; "  link {link} moved from cell {old} to cell {new}; ")?;
+            ask(rt, store, "it reads", Request::Read { link }.into())?;
         }
     }
     Ok(())
@@ -115,17 +124,9 @@ fn add_pairs(rt: &HostRuntime, store: &mut Store) -> io::Result<()> {
     ];
     for (x, y, relation, count) in pairs {
         let before = leaves(store);
+        let words = WordTriple { x, relation, y };
         let record = Tally { count };
-        let reply = call(
-            store,
-            GrowingRequest::Add {
-                x,
-                y,
-                relation,
-                record,
-            },
-        );
-        show(rt, "add", reply)?;
+        ask(rt, store, "add", GrowingRequest::Add { words, record })?;
         show_moves(rt, store, &before)?;
     }
     Ok(())
@@ -133,57 +134,49 @@ fn add_pairs(rt: &HostRuntime, store: &mut Store) -> io::Result<()> {
 
 // Deletes a pair, changes a record and ties pairs again, and prints what moved.
 fn take_and_tie(rt: &HostRuntime, store: &mut Store) -> io::Result<()> {
-    let before = leaves(store);
-    let gone = call(
-        store,
-        GrowingRequest::Delete {
-            x: b"rain",
-            y: b"bow",
-            relation: 4,
-        },
-    );
-    show(rt, "delete", gone)?;
-    let again = call(
-        store,
-        GrowingRequest::Delete {
-            x: b"rain",
-            y: b"bow",
-            relation: 4,
-        },
-    );
-    show(rt, "delete again", again)?;
-    let changed = call(store, GrowingRequest::changing(3, Tally { count: 70 }));
-    show(rt, "change", changed)?;
+    let bow = WordTriple {
+        x: b"rain",
+        relation: 4,
+        y: b"bow",
+    };
+    let coat = WordTriple {
+        x: b"bow",
+        relation: 9,
+        y: b"coat",
+    };
     let record = Tally { count: 6 };
-    let tied = call(
-        store,
-        GrowingRequest::Tie {
-            x: b"bow",
-            y: b"coat",
-            relation: 9,
-            record,
-        },
-    );
-    show(rt, "tie", tied)?;
-    let back = call(
-        store,
-        GrowingRequest::Tie {
-            x: b"rain",
-            y: b"bow",
-            relation: 4,
-            record,
-        },
-    );
-    show(rt, "tie", back)?;
+    let changed = Tally { count: 70 };
+    let requests = [
+        ("delete", Request::Delete { words: bow }),
+        ("delete again", Request::Delete { words: bow }),
+        (
+            "change",
+            Request::Change {
+                link: 3,
+                record: changed,
+            },
+        ),
+        (
+            "tie",
+            Request::Tie {
+                words: coat,
+                record,
+            },
+        ),
+        ("tie", Request::Tie { words: bow, record }),
+    ];
+    let before = leaves(store);
+    for (what, request) in requests {
+        ask(rt, store, what, request.into())?;
+    }
     show_moves(rt, store, &before)
 }
 
 // Prints what every number gives.
 fn show_all(rt: &HostRuntime, store: &mut Store) -> io::Result<()> {
-    for number in 1..11 {
-        let reply = call(store, GrowingRequest::reading(number));
-        print!(rt; "link {number} ")?;
-        show(rt, "reads", reply)?;
+    for link in 1..11 {
+        print!(rt; "link {link} ")?;
+        ask(rt, store, "reads", Request::Read { link }.into())?;
     }
     Ok(())
 }
@@ -193,7 +186,7 @@ fn main(rt: HostRuntime) -> anyhow::Result<()> {
     let list = TrieList::new(vec![in heap; Cell::FREE; 1024]?, vec![in heap; 0u32; 64]?);
     let records = vec![in heap; Tally { count: 0 }; LINKS]?;
     let cells = vec![in heap; Cell::FREE; 600]?;
-    let table = trie_tallies(
+    let table = new_store::<u8, TrieList, Tally>(
         &list,
         records.as_slice(),
         cells,
@@ -207,7 +200,6 @@ fn main(rt: HostRuntime) -> anyhow::Result<()> {
     add_pairs(&rt, &mut store)?;
     take_and_tie(&rt, &mut store)?;
     show_all(&rt, &mut store)?;
-    let figures = call(&mut store, GrowingRequest::counting());
-    show(&rt, "figures", figures)?;
+    ask(&rt, &mut store, "figures", Request::Figures.into())?;
     Ok(())
 }

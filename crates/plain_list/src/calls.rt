@@ -7,7 +7,7 @@ ghost use Rattle.plain_list.specs.Lists.{roll_lawful};
 
 use super::list::PlainList;
 use super::search;
-use lexicon::{GrowingList, ReadableList, has_label_size, is_numbered};
+use lexicon::{GrowingList, ReadableList, SoundList, has_label_size, is_numbered};
 use refusal::ListFault;
 
 // A list has at most as many words as a 16-bit number counts.
@@ -112,6 +112,10 @@ impl ReadableList for PlainList {
         let word = self.word_at(number as usize - 1);
         output::put(out, 0, word).ok_or(ListFault::OutputTooShort)
     }
+}
+
+impl SoundList for PlainList {
+    ghost always = { λ _. tt };
 }
 
 impl GrowingList for PlainList {

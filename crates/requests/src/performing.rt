@@ -26,16 +26,11 @@ fn make<'a, S: Script, L: ReadableList, R: Record>(
     ensures { L.ReadableList.sound list.now → Steps (kit_of S.Script L.ReadableList R.Record) (λ _ _. false) anything (state_of list.now table.old.links records.old) out.old (call_of request.entry) result (state_of list.now table.new.links records.new) out.new }
 {
     match request {
-        Request::Tie {
-            x,
-            y,
-            relation,
-            record,
-        } => Ok(Reply::Linked(table.tie(list, records, x, y, relation, record)?)),
-        Request::Delete { x, y, relation } => Ok(Reply::Deleted(table.delete(
-            list, x, y, relation,
-        )?)),
-        Request::Find { x, y, relation } => Ok(Reply::Found(table.find(list, x, y, relation)?)),
+        Request::Tie { words, record } => {
+            Ok(Reply::Linked(table.tie(list, records, words, record)?))
+        }
+        Request::Delete { words } => Ok(Reply::Deleted(table.delete(list, words)?)),
+        Request::Find { words } => Ok(Reply::Found(table.find(list, words)?)),
         Request::Read { link } => Ok(Reply::Read(table.read(records, link)?)),
         Request::Change { link, record } => {
             table.change(records, link, record)?;
@@ -73,33 +68,10 @@ fn make_growing<'a, S: Script, L: GrowingList, R: Record>(
     ensures { L.ReadableList.sound list.old → Steps (kit_of S.Script L.ReadableList R.Record) L.GrowingList.room L.GrowingList.enters (state_of list.old table.old.links records.old) out.old (growing_call_of request.entry) result (state_of list.new table.new.links records.new) out.new }
 {
     match request {
-        GrowingRequest::Add {
-            x,
-            y,
-            relation,
-            record,
-        } => Ok(Reply::Linked(table.add(list, records, x, y, relation, record)?)),
-        GrowingRequest::Tie {
-            x,
-            y,
-            relation,
-            record,
-        } => Ok(Reply::Linked(table.tie(list, records, x, y, relation, record)?)),
-        GrowingRequest::Delete { x, y, relation } => Ok(Reply::Deleted(table.delete(
-            list, x, y, relation,
-        )?)),
-        GrowingRequest::Find { x, y, relation } => Ok(Reply::Found(table.find(
-            list, x, y, relation,
-        )?)),
-        GrowingRequest::Read { link } => Ok(Reply::Read(table.read(records, link)?)),
-        GrowingRequest::Change { link, record } => {
-            table.change(records, link, record)?;
-            Ok(Reply::Changed)
+        GrowingRequest::Add { words, record } => {
+            Ok(Reply::Linked(table.add(list, records, words, record)?))
         }
-        GrowingRequest::List { x, relation } => Ok(Reply::Listed(table.list(
-            list, x, relation, out,
-        )?)),
-        GrowingRequest::Figures => Ok(Reply::Counted(table.figures())),
+        GrowingRequest::Other(request) => make(table, list, records, out, request),
     }
 }
 

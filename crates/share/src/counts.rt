@@ -11,11 +11,7 @@ pub fn count_at(records: &[Tally], link: u32) -> u32
     ensures { result ≡ count_at records.now link }
 {
     let place = link.saturating_sub(1) as usize;
-    if place < records.len() {
-        records[place].count
-    } else {
-        0
-    }
+    records.get(place).map_or(0, |tally| tally.count)
 }
 
 // The sum of the counts at the link numbers of at most 256 rows.
@@ -24,6 +20,7 @@ fn sum_at(records: &[Tally], rows: &[LinkRow]) -> u64
     ensures sum { result ≡ sum_at records.now rows.now }
     ensures most { result ≤ 2 ^ 40 }
 {
+    // A loop: of a chain's `sum` the bound is not proved.
     let mut sum = 0;
     for row in rows {
         sum += count_at(records, row.link) as u64;
@@ -44,8 +41,8 @@ pub(super) fn total(table: &LinkTable, records: &[Tally], x: u16, relation: u8) 
     };
     let mut rows = [blank; 256];
     let mut sum = 0;
-    for upper in 0..256u16 {
-        let count = list_upper(table, x, relation, upper as u8, &mut rows);
+    for upper in 0..=255u8 {
+        let count = list_upper(table, x, relation, upper, &mut rows);
         sum += sum_at(records, &rows[..count]);
     }
     sum

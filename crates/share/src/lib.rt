@@ -24,6 +24,7 @@ use refusal::Refusal;
 use rounding::millionths;
 use script::Script;
 use store::RelationTable;
+use word_triple::WordTriple;
 
 // The share of a present triple in a table of tallies: 1,000,000 times its count, divided by the sum
 // of the counts of all present triples with the same X and the same relation, and rounded to the
@@ -33,16 +34,14 @@ pub fn share<S: Script, L: ReadableList>(
     table: &RelationTable,
     list: &L,
     records: &[Tally],
-    x: &[S],
-    y: &[S],
-    relation: u8,
+    words: WordTriple<'_, S>,
 ) -> Result<u32, Refusal>
-    ensures answer { L.ReadableList.sound list.now → result ≡ share_answer table.now.links records.now relation (link_answer (word_kit S.Script L.ReadableList) list.now table.now.links x.now y.now relation) }
+    ensures answer { L.ReadableList.sound list.now → result ≡ share_answer table.now.links records.now words.entry.relation (link_answer (word_kit S.Script L.ReadableList) list.now table.now.links words.entry.x.now words.entry.y.now words.entry.relation) }
     ensures nearest { Nearest }
-    ensures law { ShareLaw (tally_kit S.Script L.ReadableList) (state_of list.now table.now.links records.now) x.now y.now relation result }
+    ensures law { ShareLaw (tally_kit S.Script L.ReadableList) (state_of list.now table.now.links records.now) words.entry.x.now words.entry.y.now words.entry.relation result }
 {
-    let link = table.link_of(list, x, y, relation)?;
+    let link = table.link_of(list, words)?;
     let count = count_at(records, link.number);
-    let total = total(table.links(), records, link.x, relation);
+    let total = total(table.links(), records, link.x, words.relation);
     Ok(millionths(count, total))
 }

@@ -14,10 +14,10 @@ use Rattle.link_table.specs.declared.triple.Triple.{Triple}
 use Rattle.history.specs.declared.replies.Link.{Link}
 use Rattle.history.specs.Kits.{Kit, state_of, number_in, triple_in}
 use Rattle.history.specs.Refusals.{first, none, word_refusals, put_refusals, link_refusals}
-use Rattle.history.specs.Calls.{Decided, LinkMade, answered, link_in, held_in, place_in, refusal_of_tie, Ties, refusal_of_delete, Deletes, link_by, find_of}
+use Rattle.history.specs.Calls.{Decided, LinkMade, held_in, place_in, refusal_of_tie, Ties, refusal_of_delete, Deletes}
 use Rattle.store.specs.declared.labels.WordPair.{WordPair}
 use Rattle.store.specs.Words.{labels_in, Holds, KnownTriple}
-use Rattle.store.specs.Links.{Joins, JoinsAt, link_answer}
+use Rattle.store.specs.Links.{Joins, JoinsAt}
 use Rattle.store.proofs.Decisions.{first_on, first_out, decided_err, decided_ok}
 
 -- the table's refusal as the call gives it
@@ -73,10 +73,6 @@ module _ {S L R : Type 0} (K : Kit S L R) (l : L) (t : LinkTable) (rs : List R) 
   abbrev links : List (Bool × Refusal)
   links = link_refusals (held_in K l t x y q) (all_held t) (place_in K l t x y q)
 
-  -- refused before a word is sought
-  pub tie_refused : (f : Refusal) (n : Result Link Refusal) → first (put_refusals x y q (K.good r)) ≡ Some f → n ≡ Err f → Ties K (state_of l t rs) x y q r n (state_of l t rs)
-  tie_refused f n e en = decided_err (refusal_of_tie K l t x y q r) (state_of l t rs) n _ f (first_out (put_refusals x y q (K.good r)) (unknowns ++ links) f e) en
-
   -- refused since a word is not in the list
   pub tie_unknown : (f : Refusal) (n : Result Link Refusal) → first (put_refusals x y q (K.good r)) ≡ None → first unknowns ≡ Some f → n ≡ Err f → Ties K (state_of l t rs) x y q r n (state_of l t rs)
   tie_unknown f n fit e en =
@@ -109,10 +105,6 @@ module _ {S L R : Type 0} (K : Kit S L R) (l : L) (t : LinkTable) (x y : List S)
   pub refusal_unknown : (f : Refusal) → KnownTriple (number_in K l x) (number_in K l y) q (Err f) → refusal_of_delete K l t x y q ≡ Some f
   refusal_unknown f e = first_on (word_refusals x y q) (unknown ++ absent) fit ∙ first_out unknown absent f e
 
-  -- refused since a word is not in the list
-  pub delete_unknown : (f : Refusal) (n : Result ℕ Refusal) → KnownTriple (number_in K l x) (number_in K l y) q (Err f) → n ≡ Err f → Deletes K l t x y q n t
-  delete_unknown f n e en = decided_err (refusal_of_delete K l t x y q) t n _ f (refusal_unknown f e) en
-
   module _ (triple : Triple) (known : KnownTriple (number_in K l x) (number_in K l y) q (Ok triple)) where
     -- known words are refused only if their triple is not present
     pub refusal_is : refusal_of_delete K l t x y q ≡ first ((not (is_some (found t triple)), TripleAbsent) ∷ [])
@@ -121,42 +113,9 @@ module _ {S L R : Type 0} (K : Kit S L R) (l : L) (t : LinkTable) (x y : List S)
         ∙ first_on unknown absent (known_none K l x y known.0 known.1)
         ∙ ap (λ (z : Triple). first ((not (is_some (found t z)), TripleAbsent) ∷ [])) (same_triple K l x y q triple known.0 known.1 known.2)
 
-    -- refused since the triple is not present
-    pub delete_absent : (n : Result ℕ Refusal) (t' : LinkTable) → found t triple ≡ None → t' ≡ t → n ≡ Err TripleAbsent → Deletes K l t x y q n t'
-    delete_absent n t' gone same en =
-        subst (λ (z : LinkTable). Deletes K l t x y q n z) (sym same)
-        (decided_err (refusal_of_delete K l t x y q) t n _ TripleAbsent (refusal_is ∙ ap (λ (o : Option ℕ). first ((not (is_some o), TripleAbsent) ∷ [])) gone) en)
-
     -- taken out
     pub delete_out : (u : ℕ) (t' : LinkTable) → Out t triple u t' → Deletes K l t x y q (Ok u) t'
     delete_out u t' out =
         decided_ok (refusal_of_delete K l t x y q) t (Ok u) t' _
         (refusal_is ∙ ap (λ (o : Option ℕ). first ((not (is_some o), TripleAbsent) ∷ [])) out.had)
         (u, refl, subst (λ (z : Triple). Out t z u t') (sym (same_triple K l x y q triple known.0 known.1 known.2)) out)
-
--- what find answers of known words
-pub find_is : {S L R : Type 0} (K : Kit S L R) (l : L) (t : LinkTable) (x y : List S) (q : ℕ) (p : WordPair) (a b : ℕ) (o : Option ℕ) → first (word_refusals x y q) ≡ None → Holds K.spelling x y p
-    → Some a ≡ number_of (K.roll l) (labels_in p.x) → Some b ≡ number_of (K.roll l) (labels_in p.y) → o ≡ found t (record { x = a; relation = q; y = b }) → find_of K l t x y q ≡ Ok (link_by K (Some a) (Some b) o)
-find_is K l t x y q p a b o fit holds ea eb e =
-    let ex : number_in K l x ≡ Some a = sym (ea ∙ ap (number_of (K.roll l)) holds.0) in
-    let ey : number_in K l y ≡ Some b = sym (eb ∙ ap (number_of (K.roll l)) holds.1) in
-    let triple : Triple = record { x = a; relation = q; y = b } in
-    ap (λ (z : Option Refusal). answered z (link_by K (number_in K l x) (number_in K l y) (found t (triple_in K l x y q)))) fit
-    ∙ ap (λ (z : Option ℕ). Ok (link_by K z (number_in K l y) (found t (triple_in K l x y q)))) ex
-    ∙ ap (λ (z : Option ℕ). Ok (link_by K (Some a) z (found t (triple_in K l x y q)))) ey
-    ∙ ap (λ (z : Option ℕ). Ok (link_by K (Some a) (Some b) z)) (ap (found t) (same_triple K l x y q triple ex ey refl) ∙ sym e)
-
--- a word is not in the list
-pub link_unknown : {S L R : Type 0} (K : Kit S L R) (l : L) (t : LinkTable) (x y : List S) (q : ℕ) → first (word_refusals x y q) ≡ None → (f : Refusal) → KnownTriple (number_in K l x) (number_in K l y) q (Err f)
-    → link_answer K l t x y q ≡ Err f
-link_unknown K l t x y q fit f e = ap (λ (o : Option Refusal). answered o (link_in K l x y (unwrap_or (found t (triple_in K l x y q)) 0))) (refusal_unknown K l t x y q fit f e)
-
--- the link of a present triple, or that it is absent
-pub link_is : {S L R : Type 0} (K : Kit S L R) (l : L) (t : LinkTable) (x y : List S) (q : ℕ) → first (word_refusals x y q) ≡ None → (triple : Triple) → KnownTriple (number_in K l x) (number_in K l y) q (Ok triple)
-    → (o : Option ℕ) → o ≡ found t triple → link_answer K l t x y q ≡ answered (first ((not (is_some o), TripleAbsent) ∷ [])) (record { x = triple.x; y = triple.y; number = unwrap_or o 0 })
-link_is K l t x y q fit triple known o e =
-    ap (λ (z : Option Refusal). answered z (link_in K l x y (unwrap_or (found t (triple_in K l x y q)) 0))) (refusal_is K l t x y q fit triple known ∙ ap (λ (z : Option ℕ). first ((not (is_some z), TripleAbsent) ∷ [])) (sym e))
-    ∙ ap (answered (first ((not (is_some o), TripleAbsent) ∷ [])))
-    (ap (λ (z : Option ℕ). record { x = unwrap_or z 0; y = unwrap_or (number_in K l y) 0; number = unwrap_or (found t (triple_in K l x y q)) 0 }) known.0
-    ∙ ap (λ (z : Option ℕ). record { x = triple.x; y = unwrap_or z 0; number = unwrap_or (found t (triple_in K l x y q)) 0 }) known.1
-    ∙ ap (λ (z : Option ℕ). record { x = triple.x; y = triple.y; number = unwrap_or z 0 }) (ap (found t) (same_triple K l x y q triple known.0 known.1 known.2) ∙ sym e))

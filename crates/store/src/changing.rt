@@ -13,6 +13,7 @@ use link_table::Triple;
 use record::Record;
 use refusal::{Refusal, Side};
 use script::Script;
+use word_triple::WordTriple;
 
 impl RelationTable {
     // Enters X, then Y, then their triple with its record, and answers the numbers. Refused, in this
@@ -23,16 +24,15 @@ impl RelationTable {
         &mut self,
         list: &mut L,
         records: &mut [R],
-        x: &[S],
-        y: &[S],
-        relation: u8,
+        words: WordTriple<'_, S>,
         record: R,
     ) -> Result<Link, Refusal>
-        ensures { L.ReadableList.sound list.old → Adds (kit_of S.Script L.ReadableList R.Record) L.GrowingList.room L.GrowingList.enters (state_of list.old self.old.links records.old) x.now y.now relation «record» result (state_of list.new self.new.links records.new) }
+        ensures { L.ReadableList.sound list.old → Adds (kit_of S.Script L.ReadableList R.Record) L.GrowingList.room L.GrowingList.enters (state_of list.old self.old.links records.old) words.entry.x.now words.entry.y.now words.entry.relation «record» result (state_of list.new self.new.links records.new) }
     {
-        let pair = admit(x, y, relation, &record)?;
+        let pair = admit(words, &record)?;
         let x = enter(list, &pair.x, Side::First)?;
         let y = enter(list, &pair.y, Side::Second)?;
+        let relation = words.relation;
         self.join(records, Triple { x, relation, y }, record)
     }
 
@@ -43,15 +43,13 @@ impl RelationTable {
         &mut self,
         list: &L,
         records: &mut [R],
-        x: &[S],
-        y: &[S],
-        relation: u8,
+        words: WordTriple<'_, S>,
         record: R,
     ) -> Result<Link, Refusal>
-        ensures { L.ReadableList.sound list.now → Ties (kit_of S.Script L.ReadableList R.Record) (state_of list.now self.old.links records.old) x.now y.now relation «record» result (state_of list.now self.new.links records.new) }
+        ensures { L.ReadableList.sound list.now → Ties (kit_of S.Script L.ReadableList R.Record) (state_of list.now self.old.links records.old) words.entry.x.now words.entry.y.now words.entry.relation «record» result (state_of list.now self.new.links records.new) }
     {
-        let pair = admit(x, y, relation, &record)?;
-        let triple = known_triple(list, &pair, relation)?;
+        let pair = admit(words, &record)?;
+        let triple = known_triple(list, &pair, words.relation)?;
         self.join(records, triple, record)
     }
 
@@ -61,14 +59,12 @@ impl RelationTable {
     pub fn delete<S: Script, L: ReadableList>(
         &mut self,
         list: &L,
-        x: &[S],
-        y: &[S],
-        relation: u8,
+        words: WordTriple<'_, S>,
     ) -> Result<u32, Refusal>
-        ensures { L.ReadableList.sound list.now → Deletes (word_kit S.Script L.ReadableList) list.now self.old.links x.now y.now relation result self.new.links }
+        ensures { L.ReadableList.sound list.now → Deletes (word_kit S.Script L.ReadableList) list.now self.old.links words.entry.x.now words.entry.y.now words.entry.relation result self.new.links }
     {
-        let pair = spell_pair(x, y, relation)?;
-        let triple = known_triple(list, &pair, relation)?;
+        let pair = spell_pair(words)?;
+        let triple = known_triple(list, &pair, words.relation)?;
         let number = self.links.take(triple)?;
         Ok(number)
     }

@@ -1,5 +1,6 @@
 // The calls that change nothing.
-ghost use Rattle.std.specs.Prelude.{◌≡◌};
+ghost use Rattle.std.specs.Prelude.{◌≡◌, ◌-◌, ◌≤◌};
+ghost use Rattle.std.specs.List.{slice_get};
 ghost use Rattle.history.specs.Calls.{find_of, read_of, Lists, figures_of};
 ghost use Rattle.store.specs.Links.{word_kit, link_answer};
 
@@ -12,6 +13,16 @@ use listing::{LinkRow, list_links};
 use record::Record;
 use refusal::{Refusal, Side};
 use script::Script;
+use word_triple::WordTriple;
+
+// The record of a link number, where the array reaches it.
+fn record_at<R: Record>(records: &[R], link: u32) -> Option<R>
+    requires { 1 ≤ link }
+    ensures { result ≡ slice_get records.now (link - 1) }
+{
+    let place = link as usize - 1;
+    records.get(place).copied()
+}
 
 impl RelationTable {
     // The numbers of both words and of their link by the relation, or none where a word or the
@@ -20,23 +31,20 @@ impl RelationTable {
     pub fn find<S: Script, L: ReadableList>(
         &self,
         list: &L,
-        x: &[S],
-        y: &[S],
-        relation: u8,
+        words: WordTriple<'_, S>,
     ) -> Result<Option<Link>, Refusal>
-        ensures { L.ReadableList.sound list.now → result ≡ find_of (word_kit S.Script L.ReadableList) list.now self.now.links x.now y.now relation }
+        ensures { L.ReadableList.sound list.now → result ≡ find_of (word_kit S.Script L.ReadableList) list.now self.now.links words.entry.x.now words.entry.y.now words.entry.relation }
     {
-        let pair = spell_pair(x, y, relation)?;
+        let pair = spell_pair(words)?;
         let Some(x) = number_in(list, &pair.x) else {
             return Ok(None);
         };
         let Some(y) = number_in(list, &pair.y) else {
             return Ok(None);
         };
-        match self.links.number_of(Triple { x, relation, y }) {
-            None => Ok(None),
-            Some(number) => Ok(Some(Link { x, y, number })),
-        }
+        let relation = words.relation;
+        let number = self.links.number_of(Triple { x, relation, y });
+        Ok(number.map(|number| Link { x, y, number }))
     }
 
     // The numbers of both words and of their link, of a triple that is present. Refused, in this order:
@@ -45,39 +53,27 @@ impl RelationTable {
     pub fn link_of<S: Script, L: ReadableList>(
         &self,
         list: &L,
-        x: &[S],
-        y: &[S],
-        relation: u8,
+        words: WordTriple<'_, S>,
     ) -> Result<Link, Refusal>
-        ensures { L.ReadableList.sound list.now → result ≡ link_answer (word_kit S.Script L.ReadableList) list.now self.now.links x.now y.now relation }
+        ensures { L.ReadableList.sound list.now → result ≡ link_answer (word_kit S.Script L.ReadableList) list.now self.now.links words.entry.x.now words.entry.y.now words.entry.relation }
     {
-        let pair = spell_pair(x, y, relation)?;
-        let triple = known_triple(list, &pair, relation)?;
-        match self.links.number_of(triple) {
-            None => Err(Refusal::TripleAbsent),
-            Some(number) => Ok(Link {
-                x: triple.x,
-                y: triple.y,
-                number,
-            }),
-        }
+        let pair = spell_pair(words)?;
+        let triple = known_triple(list, &pair, words.relation)?;
+        let number = self.links.number_of(triple).ok_or(Refusal::TripleAbsent)?;
+        Ok(Link {
+            x: triple.x,
+            y: triple.y,
+            number,
+        })
     }
 
     // The triple that has the link number, and its record. Refused: no present triple has it.
     pub fn read<R: Record>(&self, records: &[R], link: u32) -> Result<Reading<R>, Refusal>
         ensures { result ≡ read_of self.now.links records.now link }
     {
-        let Some(triple) = self.links.triple_of(link) else {
-            return Err(Refusal::UnknownLink);
-        };
-        let place = link as usize - 1;
-        if place >= records.len() {
-            return Err(Refusal::UnknownLink);
-        }
-        Ok(Reading {
-            triple,
-            record: records[place],
-        })
+        let triple = self.links.triple_of(link).ok_or(Refusal::UnknownLink)?;
+        let record = record_at(records, link).ok_or(Refusal::UnknownLink)?;
+        Ok(Reading { triple, record })
     }
 
     // Writes the relation, Y's number and the link number of every triple of X with the relation given,
@@ -94,13 +90,8 @@ impl RelationTable {
         ensures { L.ReadableList.sound list.now → Lists (word_kit S.Script L.ReadableList) list.now self.now.links x.now relation out.old result out.new }
     {
         let word = spell(x, Side::First)?;
-        let Some(number) = number_in(list, &word) else {
-            return Err(Refusal::UnknownWord(Side::First));
-        };
-        match list_links(&self.links, number, relation, out) {
-            Some(rows) => Ok(rows),
-            None => Err(Refusal::OutputTooShort),
-        }
+        let number = number_in(list, &word).ok_or(Refusal::UnknownWord(Side::First))?;
+        list_links(&self.links, number, relation, out).ok_or(Refusal::OutputTooShort)
     }
 
     // How many triples are present, and how many link cells are in use.

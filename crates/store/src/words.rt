@@ -9,6 +9,7 @@ use link_table::Triple;
 use record::Record;
 use refusal::{Refusal, Side};
 use script::{Script, spell_word};
+use word_triple::WordTriple;
 
 impl Labels {
     // The labels, in their order.
@@ -30,14 +31,14 @@ pub(super) fn spell<S: Script>(word: &[S], side: Side) -> Result<Labels, Refusal
     }
 }
 
-// The labels of both words of a relation. Refused, in this order: X or Y has the wrong length, the
+// The labels of both words of a triple. Refused, in this order: X or Y has the wrong length, the
 // relation is 0.
-pub(super) fn spell_pair<S: Script>(x: &[S], y: &[S], relation: u8) -> Result<WordPair, Refusal>
-    ensures { PairSpelt S.Script.spelling x.now y.now relation result }
+pub(super) fn spell_pair<S: Script>(words: WordTriple<'_, S>) -> Result<WordPair, Refusal>
+    ensures { PairSpelt S.Script.spelling words.entry.x.now words.entry.y.now words.entry.relation result }
 {
-    let x = spell(x, Side::First)?;
-    let y = spell(y, Side::Second)?;
-    if relation == 0 {
+    let x = spell(words.x, Side::First)?;
+    let y = spell(words.y, Side::Second)?;
+    if words.relation == 0 {
         return Err(Refusal::RelationZero);
     }
     Ok(WordPair { x, y })
@@ -46,14 +47,12 @@ pub(super) fn spell_pair<S: Script>(x: &[S], y: &[S], relation: u8) -> Result<Wo
 // The labels of both words for a new triple: as spell_pair, and then a record that is not sound is
 // refused.
 pub(super) fn admit<S: Script, R: Record>(
-    x: &[S],
-    y: &[S],
-    relation: u8,
+    words: WordTriple<'_, S>,
     record: &R,
 ) -> Result<WordPair, Refusal>
-    ensures { Admitted S.Script.spelling x.now y.now relation (R.Record.sound «record».now) result }
+    ensures { Admitted S.Script.spelling words.entry.x.now words.entry.y.now words.entry.relation (R.Record.sound «record».now) result }
 {
-    let pair = spell_pair(x, y, relation)?;
+    let pair = spell_pair(words)?;
     if !record.is_sound() {
         return Err(Refusal::RecordUnsound);
     }
@@ -78,12 +77,8 @@ pub(super) fn known_triple<L: ReadableList>(
 ) -> Result<Triple, Refusal>
     ensures { L.ReadableList.sound list.now → KnownTriple (number_of (L.ReadableList.roll list.now) (labels_in pair.now.x)) (number_of (L.ReadableList.roll list.now) (labels_in pair.now.y)) relation result }
 {
-    let Some(x) = number_in(list, &pair.x) else {
-        return Err(Refusal::UnknownWord(Side::First));
-    };
-    let Some(y) = number_in(list, &pair.y) else {
-        return Err(Refusal::UnknownWord(Side::Second));
-    };
+    let x = number_in(list, &pair.x).ok_or(Refusal::UnknownWord(Side::First))?;
+    let y = number_in(list, &pair.y).ok_or(Refusal::UnknownWord(Side::Second))?;
     Ok(Triple { x, relation, y })
 }
 

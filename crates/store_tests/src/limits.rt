@@ -1,5 +1,5 @@
 // Stores at their limits.
-use super::making::table;
+use super::making::{table, words};
 use history::{Figures, Link};
 use lexicon::{GrowingList, ReadableList};
 use link_table::Triple;
@@ -13,8 +13,8 @@ use store::RelationTable;
 
 const ONE: Tally = Tally { count: 1 };
 
-fn list(heap: Global, words: usize) -> Result<PlainList, AllocError> {
-    Ok(PlainList::new(vec![in heap; 0u8; 2000]?, vec![in heap; 0u8; words]?))
+fn plain(heap: Global, places: usize) -> Result<PlainList, AllocError> {
+    Ok(PlainList::new(vec![in heap; 0u8; 2000]?, vec![in heap; 0u8; places]?))
 }
 
 // The numbers that a new link has.
@@ -22,76 +22,52 @@ fn link(x: u16, y: u16, number: u32) -> Result<Link, Refusal> {
     Ok(Link { x, y, number })
 }
 
+// How many triples are present, and how many link cells are in use.
+fn figures(triples: usize, cells: usize) -> Figures {
+    Figures { triples, cells }
+}
+
 #[test]
 fn no_number_and_no_cell(rt: HostRuntime) -> Result<(), Fail> {
     let heap = rt.alloc();
-    let mut words = list(heap, 4)?;
+    let ab = words(b"a", 1, b"b");
+    let mut list = plain(heap, 4)?;
     let mut none: [Tally; 0] = [];
-    let mut without = table(heap, &words, &none, 100, 4)?;
-    assert_eq!(rt;
-        without.add(&mut words, &mut none, b"a", b"b", 1, ONE),
-        Err(Refusal::NumbersHeld)
-    );
-    assert_eq!(rt; words.count(), 2);
-    assert_eq!(rt;
-        without.figures(),
-        Figures {
-            triples: 0,
-            cells: 1,
-        }
-    );
+    let mut without = table(heap, &list, &none, 100, 4)?;
+    let added = without.add(&mut list, &mut none, ab, ONE);
+    assert_eq!(rt; added, Err(Refusal::NumbersHeld));
+    assert_eq!(rt; list.count(), 2);
+    assert_eq!(rt; without.figures(), figures(0, 1));
     let mut records = [ONE; 2];
-    let mut bare = table(heap, &words, &records, 0, 2)?;
-    assert_eq!(rt;
-        bare.tie(&words, &mut records, b"a", b"b", 1, ONE),
-        Err(Refusal::NoPlace)
-    );
-    assert_eq!(rt;
-        bare.figures(),
-        Figures {
-            triples: 0,
-            cells: 0,
-        }
-    );
-    let mut single = table(heap, &words, &records, 1, 2)?;
-    assert_eq!(rt;
-        single.tie(&words, &mut records, b"a", b"b", 1, ONE),
-        Err(Refusal::NoPlace)
-    );
-    assert_eq!(rt; single.find(&words, b"a", b"b", 1), Ok(None));
-    assert_eq!(rt;
-        single.figures(),
-        Figures {
-            triples: 0,
-            cells: 0,
-        }
-    );
+    let mut bare = table(heap, &list, &records, 0, 2)?;
+    let tied = bare.tie(&list, &mut records, ab, ONE);
+    assert_eq!(rt; tied, Err(Refusal::NoPlace));
+    assert_eq!(rt; bare.figures(), figures(0, 0));
+    let mut single = table(heap, &list, &records, 1, 2)?;
+    let tied = single.tie(&list, &mut records, ab, ONE);
+    assert_eq!(rt; tied, Err(Refusal::NoPlace));
+    assert_eq!(rt; single.find(&list, ab), Ok(None));
+    assert_eq!(rt; single.figures(), figures(0, 0));
     Ok(())
 }
 
 #[test]
 fn a_word_and_itself(rt: HostRuntime) -> Result<(), Fail> {
     let heap = rt.alloc();
-    let mut words = list(heap, 4)?;
+    let mut list = plain(heap, 4)?;
     let mut records = [ONE; 3];
-    let mut links = table(heap, &words, &records, 600, 8)?;
+    let mut links = table(heap, &list, &records, 600, 8)?;
     assert_eq!(rt;
-        links.add(&mut words, &mut records, b"a", b"a", 255, ONE),
+        links.add(&mut list, &mut records, words(b"a", 255, b"a"), ONE),
         link(1, 1, 1)
     );
     assert_eq!(rt;
-        links.tie(&words, &mut records, b"a", b"a", 1, ONE),
+        links.tie(&list, &mut records, words(b"a", 1, b"a"), ONE),
         link(1, 1, 2)
     );
-    assert_eq!(rt; words.count(), 1);
-    assert_eq!(rt;
-        links.find(&words, b"a", b"a", 255),
-        Ok(Some(Link {
-            x: 1,
-            y: 1,
-            number: 1,
-        }))
-    );
+    assert_eq!(rt; list.count(), 1);
+    let found = links.find(&list, words(b"a", 255, b"a"));
+    assert_eq!(rt; found, link(1, 1, 1).map(Some));
     Ok(())
 }
 
@@ -99,64 +75,48 @@ fn a_word_and_itself(rt: HostRuntime) -> Result<(), Fail> {
 fn filled(
     rt: &impl Abort,
     links: &mut RelationTable,
-    words: &mut PlainList,
+    list: &mut PlainList,
     records: &mut [Score],
 ) -> Result<(), Fail> {
     let sure = Score::Chance(1.0);
-    assert_eq!(rt;
-        links.add(words, records, b"a", b"b", 4, sure),
-        link(1, 2, 1)
+    let (ab, ba, bb) = (
+        words(b"a", 4, b"b"),
+        words(b"b", 4, b"a"),
+        words(b"b", 4, b"b"),
     );
-    assert_eq!(rt;
-        links.add(words, records, b"b", b"a", 4, Score::Band(0.25, 0.5)),
-        link(2, 1, 2)
-    );
-    assert_eq!(rt;
-        links.add(words, records, b"b", b"b", 4, sure),
-        Err(Refusal::NumbersHeld)
-    );
-    assert_eq!(rt;
-        links.add(words, records, b"b", b"b", 4, Score::Cost(-1.0)),
-        Err(Refusal::RecordUnsound)
-    );
-    assert_eq!(rt; links.delete(words, b"a", b"b", 4), Ok(1));
-    assert_eq!(rt;
-        links.tie(words, records, b"b", b"b", 4, Score::Cost(12.5)),
-        link(2, 2, 1)
-    );
-    assert_eq!(rt; links.change(records, 2, Score::Chance(0.5)), Ok(()));
-    let Ok(reading) = links.read(records, 2) else {
-        assert!(rt; false);
-        return Ok(());
-    };
-    assert_eq!(rt;
-        reading.triple,
-        Triple {
-            x: 2,
-            relation: 4,
-            y: 1,
-        }
-    );
-    match reading.record {
-        Score::Chance(chance) => {
-            assert!(rt; chance == 0.5);
-            Ok(())
-        },
-        _ => {
-            assert!(rt; false);
-            Ok(())
-        },
+    let cases = [
+        (ab, sure, link(1, 2, 1)),
+        (ba, Score::Band(0.25, 0.5), link(2, 1, 2)),
+        (bb, sure, Err(Refusal::NumbersHeld)),
+        (bb, Score::Cost(-1.0), Err(Refusal::RecordUnsound)),
+    ];
+    for (words, record, answer) in cases {
+        assert_eq!(rt; links.add(list, records, words, record), answer);
     }
+    assert_eq!(rt; links.delete(list, ab), Ok(1));
+    let tied = links.tie(list, records, bb, Score::Cost(12.5));
+    assert_eq!(rt; tied, link(2, 2, 1));
+    assert_eq!(rt; links.change(records, 2, Score::Chance(0.5)), Ok(()));
+    let reading = links
+        .read(records, 2)
+        .map(|reading| (reading.triple, reading.record));
+    let triple = Triple {
+        x: 2,
+        relation: 4,
+        y: 1,
+    };
+    assert!(rt; matches!(&reading, Ok((read, Score::Chance(0.5))) if *read == triple));
+    Ok(())
 }
 
 #[test]
 fn records_and_index_of_other_lengths(rt: HostRuntime) -> Result<(), Fail> {
     let heap = rt.alloc();
-    let mut words = list(heap, 4)?;
+    let mut list = plain(heap, 4)?;
     let mut more = [Score::Cost(0.0); 5];
-    let mut short_index = table(heap, &words, &more, 600, 2)?;
-    filled(&rt, &mut short_index, &mut words, &mut more)?;
-    let mut fresh = list(heap, 4)?;
+    let mut short_index = table(heap, &list, &more, 600, 2)?;
+    filled(&rt, &mut short_index, &mut list, &mut more)?;
+    let mut fresh = plain(heap, 4)?;
     let mut few = [Score::Cost(0.0); 2];
     let mut few_records = table(heap, &fresh, &few, 600, 5)?;
     filled(&rt, &mut few_records, &mut fresh, &mut few)
@@ -165,49 +125,30 @@ fn records_and_index_of_other_lengths(rt: HostRuntime) -> Result<(), Fail> {
 #[test]
 fn numbers_above_255(rt: HostRuntime) -> Result<(), Fail> {
     let heap = rt.alloc();
-    let mut words = list(heap, 300)?;
+    let mut list = plain(heap, 300)?;
     for upper in 0..2u8 {
         for lower in 0..150u8 {
-            let _ = words.enter(&[upper, lower]);
+            let _ = list.enter(&[upper, lower]);
         }
     }
+    let (low, high) = (
+        words(&[0u8, 0], 1, &[0u8, 1]),
+        words(&[1u8, 149], 1, &[1u8, 148]),
+    );
+    let back = words(&[1u8, 149], 1, &[0u8, 0]);
     let mut records = [ONE; 4];
-    let mut links = table(heap, &words, &records, 900, 4)?;
-    assert_eq!(rt;
-        links.tie(&words, &mut records, &[0u8, 0], &[0u8, 1], 1, ONE),
-        link(1, 2, 1)
-    );
-    assert_eq!(rt;
-        links.tie(&words, &mut records, &[1u8, 149], &[1u8, 148], 1, ONE),
-        link(300, 299, 2)
-    );
-    assert_eq!(rt;
-        links.tie(&words, &mut records, &[1u8, 149], &[0u8, 0], 1, ONE),
-        link(300, 1, 3)
-    );
-    assert_eq!(rt;
-        links.find(&words, &[0u8, 0], &[0u8, 1], 1),
-        Ok(Some(Link {
-            x: 1,
-            y: 2,
-            number: 1,
-        }))
-    );
-    assert_eq!(rt; links.delete(&words, &[1u8, 149], &[1u8, 148], 1), Ok(2));
-    assert_eq!(rt;
-        links.find(&words, &[1u8, 149], &[0u8, 0], 1),
-        Ok(Some(Link {
-            x: 300,
-            y: 1,
-            number: 3,
-        }))
-    );
-    assert_eq!(rt;
-        links.figures(),
-        Figures {
-            triples: 2,
-            cells: 11,
-        }
-    );
+    let mut links = table(heap, &list, &records, 900, 4)?;
+    let cases = [
+        (low, link(1, 2, 1)),
+        (high, link(300, 299, 2)),
+        (back, link(300, 1, 3)),
+    ];
+    for (words, answer) in cases {
+        assert_eq!(&rt; links.tie(&list, &mut records, words, ONE), answer);
+    }
+    assert_eq!(rt; links.find(&list, low), link(1, 2, 1).map(Some));
+    assert_eq!(rt; links.delete(&list, high), Ok(2));
+    assert_eq!(rt; links.find(&list, back), link(300, 1, 3).map(Some));
+    assert_eq!(rt; links.figures(), figures(2, 11));
     Ok(())
 }

@@ -1,9 +1,10 @@
-// Small stores for the tests.
+// Small stores, and what is asked of them.
 use cells::Cell;
 use lexicon::ReadableList;
 use record::Record;
 use std::alloc::{AllocError, Global};
 use store::RelationTable;
+use word_triple::WordTriple;
 
 // A link table of so many cells and index entries, all with some content.
 pub fn table<L: ReadableList, R: Record>(
@@ -17,4 +18,9 @@ pub fn table<L: ReadableList, R: Record>(
     let cells = vec![in heap; cell; cells]?;
     let index = vec![in heap; 7u32; index]?;
     Ok(RelationTable::new::<u8, L, R>(list, records, cells, index))
+}
+
+// A triple of words of byte text.
+pub fn words<'a>(x: &'a [u8], relation: u8, y: &'a [u8]) -> WordTriple<'a, u8> {
+    WordTriple { x, relation, y }
 }

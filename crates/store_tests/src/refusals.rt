@@ -1,5 +1,5 @@
 // Each refusal of each call in its place, also where two apply at once.
-use super::making::table;
+use super::making::{table, words};
 use cells::Cell;
 use history::{Figures, Link, Reading};
 use lexicon::{GrowingList, ReadableList};
@@ -47,10 +47,13 @@ fn adds<L: GrowingList>(
         (b"a", b"d", 4, ONE, Err(Refusal::NoRoom(Side::Second))),
     ];
     for (x, y, relation, record, answer) in cases {
-        assert_eq!(rt; table.add(list, records, x, y, relation, record), answer);
+        assert_eq!(rt;
+            table.add(list, records, words(x, relation, y), record),
+            answer
+        );
     }
     assert_eq!(rt;
-        table.add(list, records, b"d", b"e", 4, ONE),
+        table.add(list, records, words(b"d", 4, b"e"), ONE),
         Err(Refusal::NoRoom(Side::First))
     );
 }
@@ -74,17 +77,15 @@ fn ties<L: GrowingList>(
         (b"b", b"a", 4, ONE, Err(Refusal::NoPlace)),
     ];
     for (x, y, relation, record, answer) in cases {
-        assert_eq!(rt; table.tie(list, records, x, y, relation, record), answer);
+        assert_eq!(rt;
+            table.tie(list, records, words(x, relation, y), record),
+            answer
+        );
     }
 }
 
-// Reads, changes and lists in the same store.
-fn reads<L: GrowingList>(
-    rt: &impl Abort,
-    table: &mut RelationTable,
-    list: &L,
-    records: &mut [Tally],
-) {
+// Reads and changes in the same store.
+fn reads(rt: &impl Abort, table: &mut RelationTable, records: &mut [Tally]) {
     assert_eq!(rt; table.read(records, 0), Err(Refusal::UnknownLink));
     assert_eq!(rt; table.read(records, 2), Err(Refusal::UnknownLink));
     assert_eq!(rt; table.change(records, 2, NONE), Err(Refusal::UnknownLink));
@@ -95,99 +96,74 @@ fn reads<L: GrowingList>(
         relation: 4,
         y: 2,
     };
-    assert_eq!(rt;
-        table.read(records, 1),
-        Ok(Reading {
-            triple,
-            record: Tally { count: 7 },
-        })
-    );
+    let record = Tally { count: 7 };
+    assert_eq!(rt; table.read(records, 1), Ok(Reading { triple, record }));
+}
+
+// Lists in the same store.
+fn lists<L: GrowingList>(rt: &impl Abort, table: &RelationTable, list: &L) {
+    let cases: [(&[u8], Result<usize, Refusal>); 4] = [
+        (&LONG, Err(Refusal::WordLength(Side::First))),
+        (b"x", Err(Refusal::UnknownWord(Side::First))),
+        (b"a", Err(Refusal::OutputTooShort)),
+        (b"b", Ok(0)),
+    ];
     let mut none: [LinkRow; 0] = [];
-    assert_eq!(rt;
-        table.list(list, &LONG, 0, &mut none),
-        Err(Refusal::WordLength(Side::First))
-    );
-    assert_eq!(rt;
-        table.list(list, b"x", 0, &mut none),
-        Err(Refusal::UnknownWord(Side::First))
-    );
-    assert_eq!(rt;
-        table.list(list, b"a", 0, &mut none),
-        Err(Refusal::OutputTooShort)
-    );
-    assert_eq!(rt; table.list(list, b"b", 0, &mut none), Ok(0));
-    let mut rows = [LinkRow {
+    for (x, answer) in cases {
+        assert_eq!(rt; table.list(list, x, 0, &mut none), answer);
+    }
+    let before = LinkRow {
         relation: 9,
         y: 9,
         link: 9,
-    }; 2];
+    };
+    let row = LinkRow {
+        relation: 4,
+        y: 2,
+        link: 1,
+    };
+    let mut rows = [before; 2];
     assert_eq!(rt; table.list(list, b"a", 4, &mut rows), Ok(1));
-    assert_eq!(rt;
-        rows[0],
-        LinkRow {
-            relation: 4,
-            y: 2,
-            link: 1,
-        }
-    );
-    assert_eq!(rt;
-        rows[1],
-        LinkRow {
-            relation: 9,
-            y: 9,
-            link: 9,
-        }
-    );
+    assert_eq!(rt; rows[0], row);
+    assert_eq!(rt; rows[1], before);
 }
 
-// Finds and deletes in the same store.
-fn finds<L: GrowingList>(rt: &impl Abort, table: &mut RelationTable, list: &L) {
-    assert_eq!(rt;
-        table.find(list, b"", b"", 0),
-        Err(Refusal::WordLength(Side::First))
-    );
-    assert_eq!(rt;
-        table.find(list, b"x", b"", 0),
-        Err(Refusal::WordLength(Side::Second))
-    );
-    assert_eq!(rt; table.find(list, b"x", b"y", 0), Err(Refusal::RelationZero));
-    assert_eq!(rt; table.find(list, b"x", b"b", 4), Ok(None));
-    assert_eq!(rt; table.find(list, b"a", b"y", 4), Ok(None));
-    assert_eq!(rt; table.find(list, b"a", b"b", 5), Ok(None));
-    assert_eq!(rt; table.find(list, b"a", b"b", 4), Ok(Some(FIRST)));
-    assert_eq!(rt; table.link_of(list, b"a", b"b", 4), Ok(FIRST));
-    assert_eq!(rt;
-        table.delete(list, b"x", b"", 0),
-        Err(Refusal::WordLength(Side::Second))
-    );
-    assert_eq!(rt;
-        table.delete(list, b"x", b"y", 0),
-        Err(Refusal::RelationZero)
-    );
-    assert_eq!(rt;
-        table.delete(list, b"x", b"y", 4),
-        Err(Refusal::UnknownWord(Side::First))
-    );
-    assert_eq!(rt;
-        table.delete(list, b"a", b"y", 4),
-        Err(Refusal::UnknownWord(Side::Second))
-    );
-    assert_eq!(rt;
-        table.delete(list, b"a", b"b", 5),
-        Err(Refusal::TripleAbsent)
-    );
-    assert_eq!(rt; table.delete(list, b"a", b"b", 4), Ok(1));
-    assert_eq!(rt;
-        table.delete(list, b"a", b"b", 4),
-        Err(Refusal::TripleAbsent)
-    );
-    assert_eq!(rt;
-        table.figures(),
-        Figures {
-            triples: 0,
-            cells: 1,
-        }
-    );
+// Finds in the same store.
+fn finds<L: GrowingList>(rt: &impl Abort, table: &RelationTable, list: &L) {
+    let cases: [(&[u8], &[u8], u8, Result<Option<Link>, Refusal>); 7] = [
+        (b"", b"", 0, Err(Refusal::WordLength(Side::First))),
+        (b"x", b"", 0, Err(Refusal::WordLength(Side::Second))),
+        (b"x", b"y", 0, Err(Refusal::RelationZero)),
+        (b"x", b"b", 4, Ok(None)),
+        (b"a", b"y", 4, Ok(None)),
+        (b"a", b"b", 5, Ok(None)),
+        (b"a", b"b", 4, Ok(Some(FIRST))),
+    ];
+    for (x, y, relation, answer) in cases {
+        assert_eq!(rt; table.find(list, words(x, relation, y)), answer);
+    }
+    assert_eq!(rt; table.link_of(list, words(b"a", 4, b"b")), Ok(FIRST));
+}
+
+// Deletes in the same store.
+fn deletes<L: GrowingList>(rt: &impl Abort, table: &mut RelationTable, list: &L) {
+    let cases: [(&[u8], &[u8], u8, Result<u32, Refusal>); 7] = [
+        (b"x", b"", 0, Err(Refusal::WordLength(Side::Second))),
+        (b"x", b"y", 0, Err(Refusal::RelationZero)),
+        (b"x", b"y", 4, Err(Refusal::UnknownWord(Side::First))),
+        (b"a", b"y", 4, Err(Refusal::UnknownWord(Side::Second))),
+        (b"a", b"b", 5, Err(Refusal::TripleAbsent)),
+        (b"a", b"b", 4, Ok(1)),
+        (b"a", b"b", 4, Err(Refusal::TripleAbsent)),
+    ];
+    for (x, y, relation, answer) in cases {
+        assert_eq!(rt; table.delete(list, words(x, relation, y)), answer);
+    }
+    let empty = Figures {
+        triples: 0,
+        cells: 1,
+    };
+    assert_eq!(rt; table.figures(), empty);
 }
 
 fn tried<L: GrowingList>(rt: &(impl Abort + AllocGlobal), list: &mut L) -> Result<(), Fail> {
@@ -196,8 +172,10 @@ fn tried<L: GrowingList>(rt: &(impl Abort + AllocGlobal), list: &mut L) -> Resul
     adds(rt, &mut links, list, &mut records);
     ties(rt, &mut links, list, &mut records);
     assert_eq!(rt; records[0].count, 1);
-    reads(rt, &mut links, list, &mut records);
-    finds(rt, &mut links, list);
+    reads(rt, &mut links, &mut records);
+    lists(rt, &links, list);
+    finds(rt, &links, list);
+    deletes(rt, &mut links, list);
     Ok(())
 }
 

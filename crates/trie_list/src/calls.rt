@@ -11,7 +11,7 @@ use super::spelling::{codes_of, labels_of, path_of};
 use arrayvec::ArrayVec;
 use cells::Cell;
 use double_array::DoubleArray;
-use lexicon::{GrowingList, ReadableList, has_label_size, is_numbered};
+use lexicon::{GrowingList, ReadableList, SoundList, has_label_size, is_numbered};
 use refusal::ListFault;
 use subtrie::numbers_below;
 
@@ -127,6 +127,10 @@ impl ReadableList for TrieList {
         let labels = self.labels_of(number);
         output::put(out, 0, labels.as_slice()).ok_or(ListFault::OutputTooShort)
     }
+}
+
+impl SoundList for TrieList {
+    ghost always = { λ _. tt };
 }
 
 impl GrowingList for TrieList {

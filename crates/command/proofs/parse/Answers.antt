@@ -4,22 +4,16 @@ use Rattle.command.proofs.Lines.{line_long, line_asks}
 use Rattle.command.proofs.Readings.{reads_back}
 use Rattle.command.proofs.parse.Goals as goal
 
-pub returns-in-Some : goal.returns-in-Some
-returns-in-Some c =
-    let line = c.args.line.now in
-    let short : length line ≤ 127 = omega arith in
-    let tab : get_or line 1 0 ≡ 9 = search rules in
-    record { command = sym (line_asks line short tab c.from.result c.from.ensures) ∙ sym c.in-Some.ensures; lines = one_to_one; numbers = reads_back }
-
-pub returns-in-None : goal.returns-in-None
-returns-in-None c =
-    let line = c.args.line.now in
-    let short : length line ≤ 127 = omega arith in
-    let tab : get_or line 1 0 ≡ 9 = search rules in
-    record { command = (refl, sym (line_asks line short tab c.from.result c.from.ensures) ∙ sym c.in-None.ensures); lines = one_to_one; numbers = reads_back }
-
 pub returns-then-line-gt-LINE_BYTES : goal.returns-then-line-gt-LINE_BYTES
 returns-then-line-gt-LINE_BYTES c = record { command = (refl, line_long c.args.line.now (omega arith)); lines = one_to_one; numbers = reads_back }
 
 pub returns-in_default : goal.returns-in_default
 returns-in_default c = record { command = search rules; lines = one_to_one; numbers = reads_back }
+
+pub returns : goal.returns
+returns c =
+    let line = c.args.line.now in
+    let short : length line ≤ 127 = omega arith in
+    let tab : get_or line 1 0 ≡ 9 = search rules in
+    let asked = line_asks line short tab c.from.result c.from.ensures in
+    record { command = search rules; lines = one_to_one; numbers = reads_back }

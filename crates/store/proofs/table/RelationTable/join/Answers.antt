@@ -1,5 +1,4 @@
-use Rattle.std.proofs.Common.{Some, None, Ok, Err, Option, sym, refl, ap, ◌∙◌, subst}
-use Rattle.std.proofs.lemmas.Result.{err_from_is_err_and}
+use Rattle.std.proofs.Common.{Some, None, Ok, Option, sym, refl, subst, rules}
 use Rattle.refusal.specs.declared.Refusal.{Refusal}
 use Rattle.store.specs.Links.{JoinsAt}
 use Rattle.store.proofs.Ties.{joins_refusal}
@@ -8,10 +7,9 @@ use Rattle.store.proofs.table.RelationTable.join.Goals as goal
 pub returns-in_err-number : goal.returns-in_err-number
 returns-in_err-number g c =
     let m = c.in_err-number.ensures in
-    let p = err_from_is_err_and c.from_residual.result c.from_residual.ensures.1 in
     subst (λ (o : Option Refusal). JoinsAt o c.args.self.now.links c.args.records.now c.args.triple c.args.record c.from_residual.result c.put.new.self c.args.records.now)
     (sym (joins_refusal c.args.self.now.links c.args.triple (Some c.in_err-number.field-0.0) m.0))
-    (p.1 ∙ ap (λ (e : Refusal). Err e) p.2, m.1, refl)
+    (search rules, m.1, refl)
 
 pub returns : goal.returns
 returns g c =

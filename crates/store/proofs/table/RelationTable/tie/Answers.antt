@@ -1,29 +1,19 @@
-use Rattle.std.proofs.Common.{Ok, Err, ap, ◌∙◌}
-use Rattle.std.proofs.lemmas.Result.{err_from_is_err_and}
-use Rattle.refusal.specs.declared.Refusal.{Refusal}
+use Rattle.std.proofs.Common.{Ok, Err, rules}
 use Rattle.history.specs.Kits.{kit_of}
-use Rattle.store.proofs.Ties.{tie_refused, tie_unknown, tie_joined, known_words}
+use Rattle.store.proofs.Ties.{tie_unknown, tie_joined, known_words}
 use Rattle.store.proofs.table.RelationTable.tie.Goals as goal
-
-pub returns-in_err-pair : goal.returns-in_err-pair
-returns-in_err-pair g c ok =
-    let K = kit_of g.S.Script g.L.ReadableList g.R.Record in
-    let p = err_from_is_err_and c.from_residual.result c.from_residual.ensures.1 in
-    tie_refused K c.args.list.now c.args.self.now.links c.args.records.now c.args.x.now c.args.y.now c.args.relation c.args.record c.in_err-pair.field-0.0 c.from_residual.result
-    c.in_err-pair.ensures (p.1 ∙ ap (λ (e : Refusal). Err e) p.2)
 
 pub returns-in_err-triple : goal.returns-in_err-triple
 returns-in_err-triple g c ok =
     let K = kit_of g.S.Script g.L.ReadableList g.R.Record in
-    let p = err_from_is_err_and c.from_residual-in_err-triple.result c.from_residual-in_err-triple.ensures.1 in
     let m = c.in_ok-pair.ensures in
-    tie_unknown K c.args.list.now c.args.self.now.links c.args.records.now c.args.x.now c.args.y.now c.args.relation c.args.record c.in_err-triple.field-0.0 c.from_residual-in_err-triple.result
-    m.0 (known_words K c.args.list.now c.args.x.now c.args.y.now c.args.relation c.in_ok-pair.pair (Err c.in_err-triple.field-0.0) m.1 (c.in_err-triple.ensures ok)) (p.1 ∙ ap (λ (e : Refusal). Err e) p.2)
+    tie_unknown K c.args.list.now c.args.self.now.links c.args.records.now c.args.words.x.now c.args.words.y.now c.args.words.relation c.args.record c.in_err-triple.field-0.0 c.from_residual-in_err-triple.result
+    m.0 (known_words K c.args.list.now c.args.words.x.now c.args.words.y.now c.args.words.relation c.in_ok-pair.pair (Err c.in_err-triple.field-0.0) m.1 (c.in_err-triple.ensures ok)) (search rules)
 
 pub returns : goal.returns
 returns g c ok =
     let K = kit_of g.S.Script g.L.ReadableList g.R.Record in
     let m = c.in_ok-pair.ensures in
-    let k = known_words K c.args.list.now c.args.x.now c.args.y.now c.args.relation c.in_ok-pair.pair (Ok c.in_ok-triple.triple) m.1 (c.in_ok-triple.ensures ok) in
-    tie_joined K c.args.list.now c.args.self.now.links c.args.records.now c.args.x.now c.args.y.now c.args.relation c.args.record c.join.result c.join.new.self.links c.join.new.records
+    let k = known_words K c.args.list.now c.args.words.x.now c.args.words.y.now c.args.words.relation c.in_ok-pair.pair (Ok c.in_ok-triple.triple) m.1 (c.in_ok-triple.ensures ok) in
+    tie_joined K c.args.list.now c.args.self.now.links c.args.records.now c.args.words.x.now c.args.words.y.now c.args.words.relation c.args.record c.join.result c.join.new.self.links c.join.new.records
     m.0 c.in_ok-triple.triple k.0 k.1 k.2 c.join.ensures

@@ -1,4 +1,0 @@
-use Rattle.stores.proofs.plain_tallies.Goals as goal
-
-pub returns : goal.returns
-returns c = record { start = c.new.ensures.start tt; law = c.new.ensures.law tt }

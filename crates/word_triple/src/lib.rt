@@ -1,0 +1,30 @@
+// Triples of words: two words, and the relation that is asked of them.
+//
+// This crate knows no script, no list and no number: a triple here is what a caller asks about. The
+// triple of numbers that a table holds stands in crate `link_table`.
+#![tactic(auto)]
+
+ghost use Rattle.std.specs.Prelude.{◌≡◌, ⊤};
+
+use std::alloc::AllocError;
+
+// X, the relation and Y, as a call asks about them: X stands to Y in the relation.
+#[derive(Debug)]
+pub struct WordTriple<'a, S> {
+    pub x: &'a [S],
+    pub relation: u8,
+    pub y: &'a [S],
+}
+
+// By hand, since a derive would copy it only where the symbols themselves can be copied.
+impl<'a, S> Clone for WordTriple<'a, S> {
+    ghost is_clone = { λ words copy. copy ≡ words };
+
+    ghost is_infallible = { λ _. ⊤ };
+
+    fn clone(&self) -> Result<Self, AllocError> {
+        Ok(*self)
+    }
+}
+
+impl<'a, S> Copy for WordTriple<'a, S> {}
