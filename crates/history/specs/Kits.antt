@@ -21,7 +21,7 @@ pub record Kit (S L R : Type 0) : Type 1 where
   pub good : R → Bool
 
 -- the meaning that a script, a list and a record type give
-abbrev pub kit_of : {S L R : Type 0} → Scripts S → Lists L → Records R → Kit S L R
+abbrev pub kit_of : {S A L R : Type 0} → Scripts S A → Lists L → Records R → Kit S L R
 kit_of s l r = record { spelling = s.spelling; roll = l.roll; sound = l.sound; good = r.sound }
 
 -- a store: its word list, its link table and its records

@@ -13,7 +13,7 @@ use Rattle.history.specs.Laws.{Unless, has_triple, entries_of}
 use Rattle.share.specs.Rounding.{share_of}
 
 -- the meaning that a script and a list give to a store of tallies
-abbrev pub tally_kit : {S L : Type 0} → Scripts S → Lists L → Kit S L Tally
+abbrev pub tally_kit : {S A L : Type 0} → Scripts S A → Lists L → Kit S L Tally
 tally_kit s l = kit_of s l (record { sound = sound_tally })
 
 module _ {S L : Type 0} (K : Kit S L Tally) where

@@ -14,7 +14,7 @@ use Rattle.history.specs.Calls.{answered, link_in, refusal_of_delete}
 use Rattle.history.specs.Refusals.{first, link_refusals}
 
 -- the meaning that a script and a list give to calls that see no record
-abbrev pub word_kit : {S L : Type 0} → Scripts S → Lists L → Kit S L (Unit {0})
+abbrev pub word_kit : {S A L : Type 0} → Scripts S A → Lists L → Kit S L (Unit {0})
 word_kit s l = record { spelling = s.spelling; roll = l.roll; sound = l.sound; good = λ _. true }
 
 -- the meaning that a record type gives to calls that see no word

@@ -1,5 +1,5 @@
 -- Words of symbols, spelled and looked up: the parts that the calls are made of.
-use Rattle.std.specs.Prelude.{◌≡◌, ℕ, ◌+◌, Bool, true, false, ◌&&◌, List, [], ◌∷◌, length, take, Some, None, Ok, Err, Option, Result}
+use Rattle.std.specs.Prelude.{◌≡◌, ℕ, ◌+◌, Bool, true, false, ◌&&◌, List, [], ◌∷◌, length, Some, None, Ok, Err, Option, Result}
 use Rattle.refusal.specs.declared.Side.{Side}
 use Rattle.refusal.specs.declared.Side.TheVariants.{First, Second}
 use Rattle.refusal.specs.declared.Refusal.{Refusal}
@@ -14,7 +14,7 @@ use Rattle.store.specs.declared.labels.WordPair.{WordPair}
 
 -- the labels that are held
 abbrev pub labels_in : Labels → List ℕ
-labels_in w = take w.count w.bytes
+labels_in w = w.labels.items
 
 -- a word on a side was spelled, or it has the wrong length
 abbrev pub Spelt : {S : Type 0} → (S → List ℕ) → List S → Side → Result Labels Refusal → Type 0

@@ -16,7 +16,7 @@ impl Labels {
     pub(super) fn as_slice(&self) -> &[u8]
         ensures { result.now ≡ labels_in self.now }
     {
-        &self.bytes[0..self.count]
+        self.labels.as_slice()
     }
 }
 
@@ -24,11 +24,8 @@ impl Labels {
 pub(super) fn spell<S: Script>(word: &[S], side: Side) -> Result<Labels, Refusal>
     ensures { Spelt S.Script.spelling word.now side result }
 {
-    let mut bytes = [0u8; 128];
-    match spell_word(word, &mut bytes) {
-        Ok(count) => Ok(Labels { bytes, count }),
-        Err(fault) => Err(fault.at(side)),
-    }
+    let labels = spell_word(word).map_err(|fault| fault.at(side))?;
+    Ok(Labels { labels })
 }
 
 // The labels of both words of a triple. Refused, in this order: X or Y has the wrong length, the
@@ -63,10 +60,7 @@ pub(super) fn admit<S: Script, R: Record>(
 pub(super) fn number_in<L: ReadableList>(list: &L, word: &Labels) -> Option<u16>
     ensures { L.ReadableList.sound list.now → result ≡ number_of (L.ReadableList.roll list.now) (labels_in word.now) }
 {
-    match list.find(word.as_slice()) {
-        Ok(number) => number,
-        Err(_) => None,
-    }
+    list.find(word.as_slice()).unwrap_or(None)
 }
 
 // The triple of two words that the list has. Refused, in this order: X or Y is not in the list.
@@ -86,8 +80,5 @@ pub(super) fn known_triple<L: ReadableList>(
 pub(super) fn enter<L: GrowingList>(list: &mut L, word: &Labels, side: Side) -> Result<u16, Refusal>
     ensures { L.ReadableList.sound list.old → EnteredWord L.ReadableList.roll L.ReadableList.sound L.GrowingList.room L.GrowingList.enters list.old (labels_in word.now) side result list.new }
 {
-    match list.enter(word.as_slice()) {
-        Ok(number) => Ok(number),
-        Err(fault) => Err(fault.at(side)),
-    }
+    list.enter(word.as_slice()).map_err(|fault| fault.at(side))
 }
