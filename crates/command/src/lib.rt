@@ -31,9 +31,15 @@ const LAST_COUNT: u32 = 4_294_967_295;
 #[derive(Clone, Copy, Debug)]
 pub enum Command<'a> {
     // Enters X and Y, and their triple with the count.
-    Add { words: WordTriple<'a, u8>, count: u32 },
+    Add {
+        words: WordTriple<'a, u8>,
+        count: u32,
+    },
     // Enters the triple of words that the list has, with the count.
-    Tie { words: WordTriple<'a, u8>, count: u32 },
+    Tie {
+        words: WordTriple<'a, u8>,
+        count: u32,
+    },
     // Takes the triple out.
     Delete(WordTriple<'a, u8>),
     // Asks for the triple's words and count.
@@ -41,7 +47,10 @@ pub enum Command<'a> {
     // Asks for the triple's share.
     Share(WordTriple<'a, u8>),
     // Asks for what X is related to.
-    List { x: &'a [u8], relation: u8 },
+    List {
+        x: &'a [u8],
+        relation: u8,
+    },
 }
 
 // Where the first tab stands.

@@ -138,9 +138,19 @@ pub(super) fn answer(
         }
         Command::Tie { words, count } => {
             let record = Tally { count };
-            done(table, list, records, GrowingRequest::Other(Request::Tie { words, record }))
+            done(
+                table,
+                list,
+                records,
+                GrowingRequest::Other(Request::Tie { words, record }),
+            )
         }
-        Command::Delete(words) => done(table, list, records, GrowingRequest::Other(Request::Delete { words })),
+        Command::Delete(words) => done(
+            table,
+            list,
+            records,
+            GrowingRequest::Other(Request::Delete { words }),
+        ),
         Command::Find(words) => found(table, list, records, words),
         Command::List { x, relation } => listed(table, list, records, x, relation),
         Command::Share(words) => shared(table, list, records, words),

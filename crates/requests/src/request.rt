@@ -6,37 +6,19 @@ use word_triple::WordTriple;
 // Any of the calls but add: these need a list only to read it.
 #[derive(Drop)]
 pub enum Request<'a, S, R> {
-    Tie {
-        words: WordTriple<'a, S>,
-        record: R,
-    },
-    Delete {
-        words: WordTriple<'a, S>,
-    },
-    Find {
-        words: WordTriple<'a, S>,
-    },
-    Read {
-        link: u32,
-    },
-    Change {
-        link: u32,
-        record: R,
-    },
-    List {
-        x: &'a [S],
-        relation: u8,
-    },
+    Tie { words: WordTriple<'a, S>, record: R },
+    Delete { words: WordTriple<'a, S> },
+    Find { words: WordTriple<'a, S> },
+    Read { link: u32 },
+    Change { link: u32, record: R },
+    List { x: &'a [S], relation: u8 },
     Figures,
 }
 
 // Any of the eight calls: add needs a list that grows, the others do not.
 #[derive(Drop)]
 pub enum GrowingRequest<'a, S, R> {
-    Add {
-        words: WordTriple<'a, S>,
-        record: R,
-    },
+    Add { words: WordTriple<'a, S>, record: R },
     Other(Request<'a, S, R>),
 }
 
