@@ -1,15 +1,10 @@
 use Rattle.std.proofs.Common.{◌≡◌, ℕ, ◌+◌, ◌-◌, ◌≤◌, List, length, get_or, take, drop, sym, ap, ◌∙◌, arith, rules}
 use Rattle.std.specs.Str.{bytes_eq}
 use Rattle.std.proofs.lemmas.List.{at_drop_all}
-use Rattle.std.proofs.lemmas.List.Sums.{sum_by_more}
-use Rattle.std.proofs.lemmas.Bool.{cond-true, cond-false}
 use Rattle.lexicon.specs.Rolls.{number_from}
 use Rattle.plain_list.specs.Cuts.{cut}
-use Rattle.plain_list.specs.CutsLemmas.{next_inside, search_step}
+use Rattle.plain_list.specs.CutsLemmas.{next_inside}
 use Rattle.plain_list.proofs.search.number_in.Goals as goal
-
-pub overflow_add-end : goal.overflow_add-end
-overflow_add-end c = omega (arith, next_inside c.args.lengths.now c.loop-i.i c.loop-i-test.true)
 
 pub slice_bounds-eq-end : goal.slice_bounds-eq-end
 slice_bounds-eq-end c =
@@ -19,26 +14,6 @@ slice_bounds-eq-end c =
 -- what the comparison at this turn says of the word here
 compared : (ns bs w : List ℕ) (i at : ℕ) → bytes_eq (take (at + get_or ns i 0 - at) (drop at bs)) w ≡ bytes_eq (take (get_or ns i 0) (drop at bs)) w
 compared ns bs w i at = let n : at + get_or ns i 0 - at ≡ get_or ns i 0 = omega arith in ap (λ (m : ℕ). bytes_eq (take m (drop at bs)) w) n
-
-pub returns-then-eq : goal.returns-then-eq
-returns-then-eq c =
-    let ns = c.args.lengths.now in
-    let bs = c.args.bytes.now in
-    let w = c.args.word.now in
-    let l = c.loop-i in
-    let here = sym (compared ns bs w l.i l.at) ∙ sym c.eq.ensures ∙ c.if-eq.true in
-    sym (cond-true _ _ _ here) ∙ sym (search_step ns bs w l.i l.at c.loop-i-test.true) ∙ l.invariant.1
-
-pub loop-i-preserved : goal.loop-i-preserved
-loop-i-preserved c =
-    let ns = c.args.lengths.now in
-    let bs = c.args.bytes.now in
-    let w = c.args.word.now in
-    let l = c.loop-i in
-    let other = sym (compared ns bs w l.i l.at) ∙ sym c.eq.ensures ∙ c.if-eq.false in (
-      omega (arith, sum_by_more (λ x. x) ns l.i 0 c.loop-i-test.true),
-      sym (cond-false _ _ _ other) ∙ sym (search_step ns bs w l.i l.at c.loop-i-test.true) ∙ l.invariant.1,
-    )
 
 pub returns : goal.returns
 returns c =

@@ -1,5 +1,5 @@
-use Rattle.std.proofs.Common.{◌≡◌, ◌+◌, ◌++◌, [], ◌∷◌, length, get_or, take, map, sym, ap, ◌∙◌, arith, length-take-le}
-use Rattle.std.proofs.lemmas.List.{length-map, take_all, map_more}
+use Rattle.std.proofs.Common.{◌≡◌, ◌+◌, length, take, map, sym, ap, ◌∙◌, arith, length-take-le}
+use Rattle.std.proofs.lemmas.List.{length-map, take_all}
 use Rattle.trie_list.proofs.Below.{codes_map}
 use Rattle.trie_list.proofs.spelling.codes_of.Goals as goal
 
@@ -8,11 +8,6 @@ push-requires c =
     let l = c.loop-label in
     let long : length l.codes.items ≡ l.label-index = ap length l.invariant ∙ length-map (take l.label-index c.args.labels.now) (λ b. b + 2) ∙ length-take-le l.label-index c.args.labels.now (omega arith) in
     (omega arith, omega (arith, long, c.requires))
-
-pub loop-label-preserved : goal.loop-label-preserved
-loop-label-preserved c =
-    let l = c.loop-label in
-    c.push.ensures.items ∙ ap (λ z. z ++ (get_or c.args.labels.now l.label-index 0 + 2) ∷ []) l.invariant ∙ sym (map_more (λ b. b + 2) c.args.labels.now l.label-index 0 c.loop-label-test.true)
 
 pub returns : goal.returns
 returns c =

@@ -1,5 +1,5 @@
-use Rattle.std.proofs.Common.{◌≡◌, ◌+◌, ◌-◌, ◌<◌, true, ◌++◌, [], ◌∷◌, List, ℕ, length, get_or, take, map, sym, ap, ◌∙◌, arith, length-take-le}
-use Rattle.std.proofs.lemmas.List.{length-map, take_all, map_more, get_or-take}
+use Rattle.std.proofs.Common.{◌≡◌, ◌+◌, ◌-◌, ◌<◌, true, List, ℕ, length, get_or, take, map, sym, ap, ◌∙◌, arith, length-take-le}
+use Rattle.std.proofs.lemmas.List.{length-map, take_all, get_or-take}
 use Rattle.std.proofs.lemmas.Bool.{and_parts}
 use Rattle.lexicon.specs.Rolls.{label_sized}
 use Rattle.trie_list.specs.Paths.{ends_once, labels_of, word_path}
@@ -35,12 +35,6 @@ push-requires c =
     let codes = take (length p - 1 - 0) p in
     let long : length l.labels.items ≡ l.code-index = ap length l.invariant ∙ length-map (take l.code-index codes) (λ a. a - 2) ∙ length-take-le l.code-index codes (omega arith) in
     (omega arith, omega (arith, long, before_last p c.requires.word, (word_path_size p c.requires.word).1, c.loop-code-test.true))
-
-pub loop-code-preserved : goal.loop-code-preserved
-loop-code-preserved c =
-    let l = c.loop-code in
-    let p = c.args.path.now in
-    c.push.ensures.items ∙ ap (λ z. z ++ (get_or (take (length p - 1 - 0) p) l.code-index 0 - 2) ∷ []) l.invariant ∙ sym (map_more (λ a. a - 2) (take (length p - 1 - 0) p) l.code-index 0 c.loop-code-test.true)
 
 pub returns : goal.returns
 returns c =

@@ -4,7 +4,7 @@ use Rattle.cells.specs.Walking.{number_at}
 use Rattle.double_array.specs.Entries.{Added, Entry}
 use Rattle.double_array.specs.Views.{cells_of, index_of}
 use Rattle.link_table.specs.Tables.{limit, found, numbers, all_held}
-use Rattle.link_table.proofs.Tables.{same_table, same_fields, none_of, count_few, put_full, put_accepted, put_refused, put_fields, put_done}
+use Rattle.link_table.proofs.Tables.{same_table, none_of, count_few, put_full, put_accepted, put_refused, put_fields, put_done}
 use Rattle.link_table.proofs.table.LinkTable.put.Goals as goal
 
 pub returns-in_default : goal.returns-in_default
@@ -16,9 +16,6 @@ returns-in_default c =
     let e = c.write_code-path.ensures.path in
     let none = none_of (found s t) (ap is_some (ap (number_at cs) (sym e) ∙ sym c.number_at.ensures.number) ∙ sym c.is_some.ensures ∙ c.if-is_some.false) in
     (put_full s t none (subst (λ (l : List ℕ). (k : ℕ) → k < length l → 0 ≤ k → 0 < get_or l k 0) c.index.ensures c.in_default.ensures), refl)
-
-pub invariant_of-self : goal.invariant_of-self
-invariant_of-self c = same_fields c.args.self.now c.enter.new.self c.in_default-enter.ensures.same
 
 pub overflow_add-self : goal.overflow_add-self
 overflow_add-self c = omega (arith, count_few c.args.self.now)

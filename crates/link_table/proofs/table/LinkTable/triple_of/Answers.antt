@@ -1,21 +1,11 @@
 use Rattle.std.proofs.Common.{Some, None, sym, refl, ap, ◌∙◌}
 use Rattle.std.proofs.lemmas.Bool.{cond-true, cond-false}
-use Rattle.cells.specs.Cells.{all_codes}
 use Rattle.double_array.specs.Spellings.{is_known, path_of}
 use Rattle.double_array.specs.Views.{cells_of, index_of}
-use Rattle.link_table.specs.Codes.{triple_of, is_triple_path}
+use Rattle.link_table.specs.Codes.{triple_of}
 use Rattle.link_table.specs.declared.triple.Triple.{Triple}
-use Rattle.link_table.proofs.Tables.{lawful, path_known, path_five, path_codes, path_written, unknown_at}
+use Rattle.link_table.proofs.Tables.{lawful, path_known, path_written, unknown_at}
 use Rattle.link_table.proofs.table.LinkTable.triple_of.Goals as goal
-
-pub read_code-requires : goal.read_code-requires
-read_code-requires c =
-    let s = c.args.self.now in
-    let u = c.args.number in
-    let m = c.in-Ok.ensures.path in
-    let known = path_known s u 5 m.0 in
-    let same = path_written s u known c.in-Ok.field-0 _ c.path_of.new.out refl m.1 m.2 in
-    record { five = ap is_triple_path same ∙ path_five s u known; codes = ap all_codes same ∙ path_codes s u known }
 
 pub returns : goal.returns
 returns c =

@@ -1,17 +1,11 @@
-use Rattle.std.proofs.Common.{◌≡◌, true, false, sym, ◌∙◌, arith}
+use Rattle.std.proofs.Common.{◌≡◌, true, false, sym, ◌∙◌}
 use Rattle.std.proofs.lemmas.Bool.{cond-false}
 use Rattle.lexicon.specs.Rolls.{numbered}
-use Rattle.lexicon.proofs.Numbers.{numbered_bounds, numbered_by}
+use Rattle.lexicon.proofs.Numbers.{numbered_by}
 use Rattle.lexicon.proofs.Spells.{put_answer, put_output, put_within}
 use Rattle.plain_list.specs.Plain.{roll_of}
 use Rattle.plain_list.specs.Lists.{length_roll}
 use Rattle.plain_list.proofs.calls.PlainListReadableList.spell.Goals as goal
-
-pub word_at-word-requires : goal.word_at-word-requires
-word_at-word-requires c =
-    let s = c.args.self.now in
-    let bounds = numbered_bounds (roll_of s) c.args.number (sym (numbered_by (roll_of s) c.args.number s.count (length_roll s)) ∙ sym c.if-not-is_numbered.ensures) in
-    omega (arith, bounds.0, bounds.1, length_roll s)
 
 pub returns-then-not-is_numbered : goal.returns-then-not-is_numbered
 returns-then-not-is_numbered c =

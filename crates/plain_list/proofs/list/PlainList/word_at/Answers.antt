@@ -1,4 +1,4 @@
-use Rattle.std.proofs.Common.{◌≡◌, ◌+◌, ◌-◌, ◌≤◌, length, get_or, take, vec_items, sum, ap, arith, rules}
+use Rattle.std.proofs.Common.{◌≡◌, ◌+◌, ◌-◌, get_or, take, vec_items, sum, ap, arith}
 use Rattle.plain_list.specs.Lists.{counted, front_is, word_inside, word_reads}
 use Rattle.plain_list.proofs.list.PlainList.word_at.Goals as goal
 
@@ -9,25 +9,6 @@ bytes_of-start-requires c =
     let front = front_is s c.args.index c.requires in
     let given : take (c.args.index - 0) c.as_slice-lengths.result.now ≡ take c.args.index (counted s) = cc in
     omega (arith, ap sum given, word_inside s c.args.index c.requires)
-
-pub overflow_add-end : goal.overflow_add-end
-overflow_add-end c =
-    let s = c.args.self.now in
-    let all : c.args.index - 0 ≡ c.args.index = omega arith in
-    let front = front_is s c.args.index c.requires in
-    let start : c.bytes_of-start.result ≡ sum (take c.args.index (counted s)) = cc c.bytes_of-start.ensures in
-    let read : get_or c.as_slice-lengths.result.now c.args.index 0 ≡ get_or (vec_items s.lengths) c.args.index 0 = cc in
-    omega (arith, word_inside s c.args.index c.requires)
-
-pub slice_bounds-result-end : goal.slice_bounds-result-end
-slice_bounds-result-end c =
-    let s = c.args.self.now in
-    let all : c.args.index - 0 ≡ c.args.index = omega arith in
-    let front = front_is s c.args.index c.requires in
-    let start : c.bytes_of-start.result ≡ sum (take c.args.index (counted s)) = cc c.bytes_of-start.ensures in
-    let read : get_or c.as_slice-lengths.result.now c.args.index 0 ≡ get_or (vec_items s.lengths) c.args.index 0 = cc in
-    let inside : c.bytes_of-start.result + get_or c.as_slice-lengths.result.now c.args.index 0 ≤ length c.as_slice-bytes.result.now = omega (arith, word_inside s c.args.index c.requires) in
-    search rules
 
 pub returns : goal.returns
 returns c =

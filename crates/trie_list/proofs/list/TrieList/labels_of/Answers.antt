@@ -1,26 +1,15 @@
 use Rattle.std.proofs.Common.{◌≡◌, ℕ, ◌-◌, List, ◌++◌, length, take, drop, sym, ap, ◌∙◌, arith}
 use Rattle.std.proofs.lemmas.List.{take_at}
-use Rattle.cells.specs.Cells.{all_codes}
 use Rattle.cells.proofs.Basics.{no_some}
 use Rattle.double_array.specs.Views.{cells_of, index_of}
-use Rattle.trie_list.specs.Paths.{labels_of, word_path}
+use Rattle.trie_list.specs.Paths.{labels_of}
 use Rattle.trie_list.specs.Rolls.{path_at}
-use Rattle.trie_list.specs.Lists.{path_words, path_all_codes, path_known, word_labels}
+use Rattle.trie_list.specs.Lists.{path_known, word_labels}
 use Rattle.trie_list.proofs.list.TrieList.labels_of.Goals as goal
 
 -- the slice that was written is the path
 written_path : (size : ℕ) (path out after : List ℕ) → size ≡ length path → after ≡ path ++ drop size out → take (size - 0) after ≡ path
 written_path size path out after long e = ap (take (size - 0)) e ∙ take_at path (drop size out) (size - 0) (let z : length path ≡ size - 0 = omega arith in z)
-
-pub labels_of-requires : goal.labels_of-requires
-labels_of-requires c =
-    let s = c.args.self.now in
-    let m = c.in-Ok.ensures.path in
-    let same = written_path c.in-Ok.size (path_at (cells_of s.array) (index_of s.array) (c.args.number - 1)) _ c.path_of.new.out m.1 m.2 in
-    record {
-      word = ap word_path same ∙ path_words s c.args.number c.requires;
-      codes = ap all_codes same ∙ path_all_codes s c.args.number c.requires;
-    }
 
 pub returns-in-Ok : goal.returns-in-Ok
 returns-in-Ok c =

@@ -1,25 +1,17 @@
-use Rattle.std.proofs.Common.{◌≡◌, ℕ, List, Option, sym, ap, ◌∙◌, arith, rules}
+use Rattle.std.proofs.Common.{◌≡◌, ℕ, List, Option, ap, ◌∙◌, rules}
 use Rattle.cells.specs.Walking.{number_at}
 use Rattle.double_array.specs.Views.{cells_of, index_of}
 use Rattle.lexicon.specs.Rolls.{number_of}
-use Rattle.lexicon.proofs.Numbers.{number_some}
 use Rattle.trie_list.specs.declared.list.TrieList.{TrieList}
 use Rattle.trie_list.specs.Paths.{path_of}
 use Rattle.trie_list.specs.Trie.{roll_of}
 use Rattle.trie_list.specs.RollsLemmas.{number_is}
-use Rattle.trie_list.specs.Lists.{length_roll, listed}
+use Rattle.trie_list.specs.Lists.{listed}
 use Rattle.trie_list.proofs.list.TrieList.number_of.Goals as goal
 
 -- what the double array answers of the word's path is the number of the word
 found : (s : TrieList) (w path : List ℕ) (o : Option ℕ) → o ≡ number_at (cells_of s.array) path → path ≡ path_of w → o ≡ number_of (roll_of s) w
 found s w path o e same = e ∙ ap (number_at (cells_of s.array)) same ∙ number_is (cells_of s.array) (index_of s.array) s.count (listed s) w
-
-pub map-requires : goal.map-requires
-map-requires c n e _ _ =
-    let s = c.args.self.now in
-    let w = c.args.word.now in
-    let same = found s w _ _ c.number_at.ensures.number (c.as_slice.ensures.value ∙ c.path_of-path.ensures) in
-    omega (arith, (number_some (roll_of s) w n (sym same ∙ e)).1, length_roll s, s.few)
 
 pub returns : goal.returns
 returns c =
