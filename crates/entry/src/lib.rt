@@ -41,7 +41,8 @@ pub fn enter_word<S: Script, L: GrowingList>(list: &mut L, word: &[S]) -> Result
     }
 }
 
-// How many labels the word of a number has; 0 where no word has the number.
+// How many labels the word of a number has; 0 where no word has the number. A list spells into an
+// output that it is lent: a rule of the project.
 fn labels_of<L: ReadableList>(list: &L, number: u16) -> usize
     ensures few { result ≤ 128 }
     ensures labels { L.ReadableList.sound list.now → numbered (L.ReadableList.roll list.now) number ≡ true → result ≡ length (word_of (L.ReadableList.roll list.now) number) }

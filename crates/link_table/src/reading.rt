@@ -25,6 +25,7 @@ impl LinkTable {
         ensures triple { result ≡ coded self.now number }
         ensures laws { Lawful self.now }
     {
+        // A path is written into an output that is lent: a rule of the project.
         let mut path = [0u16; 5];
         let Ok(_) = self.array.path_of(number, &mut path) else {
             return None;

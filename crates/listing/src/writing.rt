@@ -1,6 +1,8 @@
 // Writing rows: those of one upper byte of the second word's number, of one relation, of all relations.
 //
-// Each walk writes as far as the output has places, and counts on past its end.
+// Each walk writes as far as the output has places, and counts on past its end. The output and the
+// place in it stay two parameters: of an output that a struct holds, no contract could say what it holds
+// when it is given back (tried).
 ghost use Rattle.std.specs.Prelude.{◌+◌, ◌*◌, ◌^◌, ◌<◌, ◌≤◌, [], ◌∷◌, Some};
 ghost use Rattle.listing.specs.Parts.{rows_from, Placed};
 ghost use Rattle.listing.specs.Rows.{rows_by, rows_to, rows_of, Filled};

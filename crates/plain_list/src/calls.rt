@@ -98,6 +98,7 @@ impl ReadableList for PlainList {
         self.count as u16
     }
 
+    // As the trie list's: one text would need the search as a public method that asks for a sized word.
     fn find(&self, word: &[u8]) -> Result<Option<u16>, ListFault> {
         if !has_label_size(word) {
             return Err(ListFault::WordLength);

@@ -3,6 +3,8 @@ ghost use Rattle.std.specs.Prelude.{◌≡◌, ◌≤◌, take, vec_len, sum};
 ghost use Rattle.lexicon.specs.Rolls.{Sized, Distinct};
 ghost use Rattle.plain_list.specs.Cuts.{cut};
 
+// The arrays are given once, each with how much of it is used beside it; what stands past that stays,
+// a rule of the project.
 #[derive(Drop)]
 pub struct PlainList {
     // The spellings end to end, and from `used` on what was there before.

@@ -40,7 +40,8 @@ pub trait Script {
     ghost apart: { (x y : Self) → spelling x ≡ spelling y → x ≡ y };
 }
 
-// The word has 1 to 32 symbols.
+// The word has 1 to 32 symbols. A generic test of a length against a bound, for this one and that of
+// labels, would need a crate of its own and be no shorter.
 fn has_word_size<S: Script>(word: &[S]) -> bool
     ensures { result ≡ word_sized word.now }
 {

@@ -78,6 +78,7 @@ impl TrieList {
         requires { numbered (roll_of self.now) number ≡ true }
         ensures { result.items ≡ word_of (roll_of self.now) number }
     {
+        // A path is written into an output that is lent: a rule of the project.
         let mut path = [0u16; 129];
         match self.array.path_of(number as u32, &mut path) {
             Ok(size) => labels_of(&path[0..size]),
@@ -113,6 +114,7 @@ impl ReadableList for TrieList {
         self.count as u16
     }
 
+    // As the plain list's: one text would need the search as a public method that asks for a sized word.
     fn find(&self, word: &[u8]) -> Result<Option<u16>, ListFault> {
         if !has_label_size(word) {
             return Err(ListFault::WordLength);
