@@ -26,7 +26,7 @@ struct Growth {
 pub(super) fn is_path(path: &[u16]) -> bool
     ensures { result ≡ is_path path.now }
 {
-    path.len() > 0 && path.len() < 130 && all_codes(path)
+    !path.is_empty() && path.len() < 130 && all_codes(path)
 }
 
 // The base of the leaf with this number.
@@ -42,11 +42,7 @@ impl Nodes {
     pub(super) fn is_open(&self, number: u32) -> bool
         ensures { result ≡ is_open self.now.index.items number }
     {
-        if number == 0 || number >= 2_147_483_648 {
-            return false;
-        }
-        let entry = number as usize - 1;
-        entry >= self.index.len() || self.index[entry] == 0
+        (1..2_147_483_648).contains(&number) && self.leaf_of(number).is_none()
     }
 
     // Follows the path from the root as far as there are edges: the last node, and how many codes led there.
@@ -118,18 +114,16 @@ impl Nodes {
         let mut tip = s;
         for (i, code) in codes.iter().enumerate() {
             let base = if i + 1 < codes.len() { 0 } else { leaf };
-            match self.give_child(tip, *code, base) {
-                Some(t) => tip = t,
-                None => {
-                    self.undo(Growth {
-                        node: s,
-                        base: before,
-                        new: i,
-                        tip,
-                    });
-                    return Err(PathFault::NoPlace);
-                }
-            }
+            let Some(t) = self.give_child(tip, *code, base) else {
+                self.undo(Growth {
+                    node: s,
+                    base: before,
+                    new: i,
+                    tip,
+                });
+                return Err(PathFault::NoPlace);
+            };
+            tip = t;
         }
         self.note_leaf(leaf, tip);
         Ok(())

@@ -50,11 +50,10 @@ impl Nodes {
         ensures cells { self.new.cells ≡ self.old.cells }
         ensures kept { SameBuffers self.old self.new }
     {
-        if let Some(number) = leaf_number(base) {
-            let entry = number as usize - 1;
-            if entry < self.index.len() {
-                self.index[entry] = to as u32;
-            }
+        if let Some(number) = leaf_number(base)
+            && let Some(entry) = self.index.get_mut(number as usize - 1)
+        {
+            *entry = to as u32;
         }
     }
 
