@@ -2,6 +2,7 @@ pub mod Codes
 pub mod Buffers
 pub mod Walks
 pub mod Moving
+pub mod Turning
 pub mod Giving
 pub mod Climbs
 pub mod Uses

@@ -75,6 +75,7 @@ impl Nodes {
         ensures { out.new ≡ path_to self.now.cells.items t }
     {
         let mut s = t;
+        // By index: of what is written through `iter_mut().rev()` a proof knows nothing afterwards.
         for i in (0..out.len()).rev() {
             let above = self.parent(s);
             out[i] = (s - self.base(above)) as u16;

@@ -16,10 +16,11 @@ fn repoint(cells: &mut [Cell], base: usize, from: usize, to: usize)
     requires base { base < 2 ^ 31 }
     ensures { (j : ℕ) → j < length cells.old → at cells.new j ≡ repointed cells.old base from to 258 j }
 {
-    for code in 1..258 {
-        let t = base + code;
-        if t < cells.len() && cells[t].check == from as i32 {
-            cells[t].check = to as i32;
+    let end = cells.len().min(base + 258);
+    let start = end.min(base + 1);
+    for cell in cells[start..end].iter_mut() {
+        if cell.check == from as i32 {
+            cell.check = to as i32;
         }
     }
 }
