@@ -1,9 +1,8 @@
-use Rattle.std.proofs.Common.{◌≡◌, ℕ, ◌+◌, ◌-◌, ◌<◌, List, length, get_or, drop, set, ℤ, negsuc, Option, Some, None, sym, refl, ap, ◌∙◌, subst, arith, w32, to_z, of_z, rules}
-use Rattle.std.proofs.lemmas.List.{at_drop_all}
+use Rattle.std.proofs.Common.{◌≡◌, ℕ, ◌+◌, ◌-◌, ◌<◌, List, length, get_or, drop, ℤ, negsuc, Option, Some, None, sym, refl, ap, ◌∙◌, subst, arith, w32, to_z, of_z, rules}
 use Rattle.std.proofs.lemmas.Int.{to_z-of_z}
 use Rattle.cells.specs.declared.Cell.{Cell}
 use Rattle.cells.specs.Cells.{child_codes}
-use Rattle.cells.specs.Placing.{Spot, Arrays, place, then_place, reindexed, freed_up, undo}
+use Rattle.cells.specs.Placing.{Spot, Arrays, place, then_place, freed_up, undo}
 use Rattle.double_array.specs.Outcomes.{Parented}
 use Rattle.double_array.proofs.Buffers.{kept_on}
 use Rattle.double_array.proofs.Growing.{Undoable, grow_on, step_base, step_more, step_last, grow_next, grow_more, extended_is, undoable}
@@ -87,20 +86,3 @@ loop-i-preserved c =
           (ap (place l.self.cells.items l.self.index.items l.tip (get_or codes l.i 0)) (sym (base at ∙ step_more codes l.i (leaf at) more)) ∙ placed),
       kept_on c.args.self.now l.self c.give_child.new.self l.invariant.3 c.give_child.ensures.kept,
     )
-
-pub returns-clause-cells : goal.returns-clause-cells
-returns-clause-cells c =
-    let l = c.loop-i in
-    let cs = c.args.self.now.cells.items in
-    let is = c.args.self.now.index.items in
-    let s = c.args.s in
-    let codes = c.args.codes.now in
-    let n = c.args.number - 1 in
-    let z = to_z w32 (of_z w32 c.leaf_base-leaf.result) in
-    let number : z ≡ negsuc n = to_z-of_z w32 c.leaf_base-leaf.result (search rules) ∙ c.leaf_base-leaf.ensures in
-    let r : Spot = record { cells = l.self.cells.items; index = l.self.index.items; spot = l.tip } in
-    let grown : grow_on codes z (record { cells = cs; index = is; spot = s }) ≡ Some r = sym l.invariant.1 ∙ at_drop_all (λ x. grow_on x z r) codes l.i c.loop-i-test.false in
-    let noted : c.note_leaf.new.self.index.items ≡ set l.self.index.items n l.tip = c.note_leaf.ensures.leaves ∙ ap (λ y. reindexed l.self.index.items y l.tip) number in
-    extended_is codes cs is s n (Some r) c.requires.some (ap (λ y. grow_on codes y (record { cells = cs; index = is; spot = s })) (sym number) ∙ grown)
-    ∙ ap (λ x. Some (record { cells = l.self.cells.items; index = x })) (sym noted)
-    ∙ ap (λ v. Some (record { cells = v.items; index = c.note_leaf.new.self.index.items })) (sym c.note_leaf.ensures.cells)
