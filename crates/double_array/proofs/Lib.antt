@@ -7,7 +7,6 @@ pub mod Giving
 pub mod Climbs
 pub mod Uses
 pub mod Fields
-pub mod Frees
 pub mod Follows
 pub mod Growing
 pub mod Refusals
