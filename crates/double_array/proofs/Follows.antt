@@ -1,26 +1,12 @@
--- Following a path, one step more, and what is known of the node where it leaves the tree.
-use Rattle.std.proofs.Common.{◌≡◌, ℕ, ◌+◌, ◌<◌, true, false, cond, List, [], ◌∷◌, length, get_or, drop, ℤ, pos, negsuc, Some, None, Option, sym, refl, ap, ◌∙◌, subst, arith}
+-- What is known of the node where a path leaves the tree.
+use Rattle.std.proofs.Common.{◌≡◌, ℕ, ◌+◌, ◌<◌, true, false, cond, List, [], ◌∷◌, length, get_or, ℤ, pos, negsuc, Some, None, Option, sym, refl, ap, ◌∙◌, subst, arith}
 use lib.Signed.{lt_z}
-use Rattle.std.proofs.lemmas.List.{at_drop_more, drop_more}
 use Rattle.cells.specs.declared.Cell.{Cell}
 use Rattle.std.proofs.lemmas.Bool.{cond_both, cond-false, and_parts, both_ways, eqb-true, ltb-true}
 use Rattle.cells.specs.Cells.{at, nat, parent, same_int, is_leaf, edge, child, all_codes}
 use Rattle.cells.specs.Placing.{extend, found_or, enter_from}
 use Rattle.cells.proofs.Basics.{no_some}
 use Rattle.double_array.specs.Entries.{Followed, follow, or_stop, extended}
-
-module _ (cs : List Cell) (s : ℕ) (p : List ℕ) (i : ℕ) (within : i < length p) where
-  step : (o : Option ℕ) → o ≡ child cs s (get_or p i 0)
-      → or_stop o (record { node = s; rest = get_or p i 0 ∷ drop (i + 1) p }) (λ t. follow cs t (drop (i + 1) p)) ≡ follow cs s (drop i p)
-  step o e =
-      ap (λ x. or_stop x (record { node = s; rest = get_or p i 0 ∷ drop (i + 1) p }) (λ t. follow cs t (drop (i + 1) p))) e
-      ∙ sym (at_drop_more (follow cs s) p i 0 within)
-
-  pub follow_on : (t : ℕ) → Some t ≡ child cs s (get_or p i 0) → follow cs t (drop (i + 1) p) ≡ follow cs s (drop i p)
-  follow_on t e = step (Some t) e
-
-  pub follow_stops : None ≡ child cs s (get_or p i 0) → record { node = s; rest = drop i p } ≡ follow cs s (drop i p)
-  follow_stops e = ap (λ l. record { node = s; rest = l }) (drop_more p i 0 within) ∙ step None e
 
 equal_nat : (z : ℤ) (s : ℕ) → same_int z (pos s) ≡ true → nat z ≡ s
 equal_nat (pos n) s e = eqb-true n s e

@@ -5,20 +5,19 @@ use Rattle.std.proofs.lemmas.Bool.{cases_eq, cond-true, eq-eqb, and_parts, and_f
 use Rattle.cells.specs.declared.Cell.{Cell}
 use Rattle.cells.specs.Cells.{at, base_of, parent, child, child_codes, is_code, all_codes}
 use Rattle.cells.specs.Placing.{Spot, place, then_place, grow, freed_up, relocated, undo}
-use Rattle.cells.specs.Trees.{In, Edge, Reach, Tree, NotLeaf, Family}
+use Rattle.cells.specs.Trees.{In, Reach, Tree, NotLeaf, Family}
 use Rattle.cells.specs.Invariant.{Sound}
 use Rattle.cells.specs.Laws.{Open}
 use Rattle.cells.proofs.Paths.{edge_up, reach_some}
 use Rattle.cells.proofs.Counts.{within}
 use Rattle.cells.proofs.Renamings.{up_used}
 use Rattle.cells.proofs.Climbs.{codes_from}
-use Rattle.cells.proofs.Basics.{no_some}
-use Rattle.cells.proofs.Walks.{listing, edge_child}
+use Rattle.cells.proofs.Walks.{listing}
 use Rattle.cells.proofs.Families.{in_getD}
 use Rattle.cells.proofs.Returns.{family_after}
 use Rattle.cells.proofs.Sounds.{Tidy, tidy_of, reach_of, inner_is, inner_base}
 use Rattle.cells.proofs.Grows.{Here, There, some_same, then_some, grow_well}
-use Rattle.cells.proofs.Undoes.{mid_of, grow_freed, undoing}
+use Rattle.cells.proofs.Undoes.{mid_of, steps, steps_is, grow_freed, fresh_from, undoing}
 use Rattle.double_array.specs.Outcomes.{Parented}
 use Rattle.double_array.specs.Entries.{extended}
 use Rattle.double_array.proofs.Codes.{codes_within}
@@ -83,18 +82,6 @@ tree_parents cs tree some j =
     ⊎_elim (λ z. omega arith)
     (λ nz. let w = tree.reach j (omega arith) in within cs (parent cs j) (up_used cs tree w.0 j w.1))
     (cases_eq (parent cs j) 0)
-
--- m and the number of the codes
-abbrev steps : List ℕ → ℕ → ℕ
-steps [] m = suc m
-steps (b ∷ more) m = steps more (suc m)
-
-steps_is : (more : List ℕ) (m : ℕ) → 1 + length more + m ≡ steps more m
-steps_is [] m = omega arith
-steps_is (b ∷ more) m = omega (arith, steps_is more (suc m))
-
-fresh_from : (cs : List Cell) (s a : ℕ) → 0 < s → child cs s a ≡ None → (u : ℕ) → Edge cs s a u → ⊥
-fresh_from cs s a some none u g = no_some u (sym none ∙ edge_child cs s a some u g)
 
 -- s, of sound cells, has no child by the first of the codes
 module _ (cs : List Cell) (is : List ℕ) (s : ℕ) (sound : Sound cs is) where

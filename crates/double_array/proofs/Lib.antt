@@ -2,11 +2,11 @@ pub mod Codes
 pub mod Buffers
 pub mod Walks
 pub mod Moving
+pub mod Turning
 pub mod Giving
 pub mod Climbs
 pub mod Uses
 pub mod Fields
-pub mod Frees
 pub mod Follows
 pub mod Growing
 pub mod Refusals

@@ -1,28 +1,17 @@
--- One node that moves, and one more.
-use Rattle.std.proofs.Common.{◌≡◌, ℕ, ◌+◌, ◌-◌, ◌<◌, ◌≤◌, cond, eqb, List, length, get_or, drop, set, ℤ, pos, negsuc, nat_abs, sym, ap, ◌∙◌, ⊎_elim, arith}
+-- One node that moves.
+use Rattle.std.proofs.Common.{◌≡◌, ℕ, ◌<◌, cond, eqb, List, length, set, pos, sym, ap, ◌∙◌, ⊎_elim, arith}
 use lib.Signed.{lt_z}
 use Rattle.std.proofs.lemmas.List.FromFn.{fill_by_all}
-use Rattle.std.proofs.lemmas.List.{at_drop_more, get_or-set_same, get_or-set_other, length-set, set_past}
-use Rattle.std.proofs.lemmas.Bool.{cases_eq, cond-true, cond-false, eq-eqb, ne_eqb, le-ltb}
+use Rattle.std.proofs.lemmas.List.{get_or-set_same, get_or-set_other, length-set}
+use Rattle.std.proofs.lemmas.Bool.{cases_eq, cond-true, cond-false, eq-eqb, ne_eqb}
 use Rattle.cells.specs.declared.Cell.{Cell}
 use Rattle.cells.specs.Cells.{at, nat, free_cell}
-use Rattle.cells.specs.Placing.{repointed, moved, reindexed, moved_list, moves, index_moves}
+use Rattle.cells.specs.Placing.{repointed, moved, moved_list}
 
 -- cells that are known one by one are known as a list
 pub list_is : (cs ds : List Cell) (f t : ℕ) → length ds ≡ length cs → ((j : ℕ) → j < length cs → at ds j ≡ moved cs f t j) → ds ≡ moved_list cs f t
 unfolding moved_list
 list_is cs ds f t long all = fill_by_all (moved cs f t) ds (length cs) free_cell long all
-
-module _ (b e : ℕ) (codes : List ℕ) (i : ℕ) (within : i < length codes) (cs ds : List Cell) (same : ds ≡ moved_list cs (b + get_or codes i 0) (e + get_or codes i 0)) where
-  pub moves_more : moves b e ds (drop (i + 1) codes) ≡ moves b e cs (drop i codes)
-  moves_more =
-      ap (λ l. moves b e l (drop (i + 1) codes)) same ∙ sym (at_drop_more (moves b e cs) codes i 0 within)
-
-  pub index_moves_more : (is js : List ℕ) → js ≡ reindexed is (at cs (b + get_or codes i 0)).base (e + get_or codes i 0) → index_moves b e ds js (drop (i + 1) codes) ≡ index_moves b e cs is (drop i codes)
-  index_moves_more is js also =
-      ap (λ l. index_moves b e l js (drop (i + 1) codes)) same
-      ∙ ap (λ l. index_moves b e (moved_list cs (b + get_or codes i 0) (e + get_or codes i 0)) l (drop (i + 1) codes)) also
-      ∙ sym (at_drop_more (index_moves b e cs is) codes i 0 within)
 
 -- the node is written into its new cell and its old cell is freed, after its children have followed
 module _ (cs ms : List Cell) (f t : ℕ) (long : length ms ≡ length cs) (hf : f < length cs) (ht : t < length cs) where
@@ -40,8 +29,3 @@ module _ (cs ms : List Cell) (f t : ℕ) (long : length ms ≡ length cs) (hf : 
       (cases_eq j t)
       ∙ sym (cond-false (eqb j f) _ _ (ne_eqb j f ne)))
       (cases_eq j f))
-
--- a number past the index is not noted
-pub reindexed_past : (is : List ℕ) (z : ℤ) (t : ℕ) → length is ≤ nat_abs z - 1 → is ≡ reindexed is z t
-reindexed_past is (pos n) t past = sym (cond-false (lt_z (pos n) (pos 0)) _ is (le-ltb n 0 (omega arith)))
-reindexed_past is (negsuc n) t past = sym (set_past is n t (omega arith))

@@ -1,7 +1,6 @@
 -- Sound cells can be climbed from each leaf in the index, and that spells the path of its number.
-use Rattle.std.proofs.Common.{◌≡◌, ℕ, suc, ◌+◌, ◌-◌, ◌<◌, cond, ◌⊎◌, List, [], ◌∷◌, length, get_or, Some, None, sym, ap, ◌∙◌, subst, inl, inr, ⊎_elim, arith}
-use Rattle.std.proofs.lemmas.List.{get_or_past}
-use Rattle.std.proofs.lemmas.Bool.{cases_eq, cond-false, and_from, and_left, and_right, and_parts, ltb-true, lt-ltb, le-ltb}
+use Rattle.std.proofs.Common.{◌≡◌, ℕ, suc, ◌+◌, ◌-◌, ◌<◌, List, [], ◌∷◌, length, get_or, Some, sym, ap, ◌∙◌, subst, ⊎_elim, arith}
+use Rattle.std.proofs.lemmas.Bool.{cases_eq, and_from, and_parts, ltb-true, lt-ltb}
 use Rattle.cells.specs.declared.Cell.{Cell}
 use Rattle.cells.specs.Cells.{base_of, parent}
 use Rattle.cells.specs.Trees.{Edge, Reach, Tree}
@@ -13,11 +12,7 @@ use Rattle.cells.proofs.Leaves.{leaf_used}
 use Rattle.cells.proofs.Sounds.{tidy_of, reach_of}
 use Rattle.cells.proofs.Starts.{indexing}
 use Rattle.double_array.specs.Outcomes.{Upward}
-use Rattle.double_array.specs.Spellings.{is_known, Pointed, Named}
-
-pub none_known : (is : List ℕ) (u : ℕ) → (u ≡ 0) ⊎ (length is < u) → None ≡ cond (is_known is u) (Some (get_or is (u - 1) 0)) None
-none_known is u (inl e) = sym (cond-false (is_known is u) _ None (and_left _ _ (le-ltb 0 u (omega arith))))
-none_known is u (inr h) = sym (cond-false (is_known is u) _ None (and_right _ _ (le-ltb 0 (get_or is (u - 1) 0) (omega (arith, get_or_past is (u - 1) 0 (omega arith))))))
+use Rattle.double_array.specs.Spellings.{Pointed, Named}
 
 module _ (cs : List Cell) (is : List ℕ) (sound : Sound cs is) where
   above : (t : ℕ) (p : List ℕ) → Tree cs → Reach cs p t → (t ≡ 1 → ⊥) → (0 < parent cs (parent cs t)) × (base_of cs (parent cs t) < t) × (t < base_of cs (parent cs t) + 258)

@@ -26,8 +26,9 @@ impl DoubleArray {
         ensures index { (n : ℕ) → slice_index (index_of result) n ≡ 0 }
         ensures none { (p : List ℕ) → number_at (cells_of result) p ≡ None }
     {
-        let nodes = Nodes::new(cells, index);
-        DoubleArray { nodes }
+        DoubleArray {
+            nodes: Nodes::new(cells, index),
+        }
     }
 
     // The number at the end of the path, or none where the path is not held: walking finds exactly the held paths.

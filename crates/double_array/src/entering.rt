@@ -1,5 +1,5 @@
 // Entering a path: new cells below the node where it leaves the tree, all undone where one has no place.
-ghost use Rattle.std.specs.Prelude.{◌≡◌, ℕ, ◌+◌, ◌-◌, ◌^◌, ◌<◌, ◌≤◌, length, drop, negsuc, None, OnErr, slice_index};
+ghost use Rattle.std.specs.Prelude.{◌≡◌, ℕ, ◌+◌, ◌-◌, ◌^◌, ◌<◌, ◌≤◌, length, drop, negsuc, None, slice_index};
 ghost use Rattle.cells.specs.Cells.{child as child_of, child_codes};
 ghost use Rattle.cells.specs.Placing.{freed_up, undo as undone};
 ghost use Rattle.cells.specs.Invariant.{Sound};
@@ -23,10 +23,10 @@ struct Growth {
 }
 
 // Whether it is a path: 1 to 129 codes.
-pub(super) fn is_path(path: &[u16]) -> bool
+fn is_path(path: &[u16]) -> bool
     ensures { result ≡ is_path path.now }
 {
-    path.len() > 0 && path.len() < 130 && all_codes(path)
+    !path.is_empty() && path.len() < 130 && all_codes(path)
 }
 
 // The base of the leaf with this number.
@@ -39,18 +39,14 @@ fn leaf_base(number: u32) -> i32
 
 impl Nodes {
     // Whether the number can be given: from 1 to 2,147,483,647, with no leaf in the index.
-    pub(super) fn is_open(&self, number: u32) -> bool
+    fn is_open(&self, number: u32) -> bool
         ensures { result ≡ is_open self.now.index.items number }
     {
-        if number == 0 || number >= 2_147_483_648 {
-            return false;
-        }
-        let entry = number as usize - 1;
-        entry >= self.index.len() || self.index[entry] == 0
+        (1..2_147_483_648).contains(&number) && self.leaf_of(number).is_none()
     }
 
     // Follows the path from the root as far as there are edges: the last node, and how many codes led there.
-    pub(super) fn follow(&self, path: &[u16]) -> (usize, usize)
+    fn follow(&self, path: &[u16]) -> (usize, usize)
         requires { 1 < length self.now.cells.items }
         ensures node { result.0 ≡ (followed self.now.cells.items 1 path.now).node }
         ensures rest { drop result.1 path.now ≡ (followed self.now.cells.items 1 path.now).rest }
@@ -68,7 +64,7 @@ impl Nodes {
     }
 
     // Frees the cell `t` and the cells above it, `n` in all.
-    pub(super) fn free_up(&mut self, t: usize, n: usize)
+    fn free_up(&mut self, t: usize, n: usize)
         requires within { t < length self.old.cells.items }
         requires parents { Parented self.old.cells.items }
         ensures cells { self.new.cells.items ≡ freed_up n self.old.cells.items t }
@@ -103,7 +99,7 @@ impl Nodes {
 
     // Gives `s` a child by the first code, that one a child by the next, and so on to a leaf with the number. Where one has no
     // place, all is undone.
-    pub(super) fn extend(&mut self, s: usize, codes: &[u16], number: u32) -> Result<(), PathFault>
+    fn extend(&mut self, s: usize, codes: &[u16], number: u32) -> Result<(), PathFault>
         requires number { (0 < number) × (number < 2 ^ 31) }
         requires some { 0 < length codes.now }
         requires sound { Sound self.old.cells.items self.old.index.items }
@@ -118,18 +114,16 @@ impl Nodes {
         let mut tip = s;
         for (i, code) in codes.iter().enumerate() {
             let base = if i + 1 < codes.len() { 0 } else { leaf };
-            match self.give_child(tip, *code, base) {
-                Some(t) => tip = t,
-                None => {
-                    self.undo(Growth {
-                        node: s,
-                        base: before,
-                        new: i,
-                        tip,
-                    });
-                    return Err(PathFault::NoPlace);
-                }
-            }
+            let Some(t) = self.give_child(tip, *code, base) else {
+                self.undo(Growth {
+                    node: s,
+                    base: before,
+                    new: i,
+                    tip,
+                });
+                return Err(PathFault::NoPlace);
+            };
+            tip = t;
         }
         self.note_leaf(leaf, tip);
         Ok(())

@@ -10,7 +10,7 @@ use super::nodes::Nodes;
 use refusal::NumberFault;
 
 // Whether it is the code of the end sign, 1, or of a label, 2 to 257.
-pub(super) fn is_code(code: u16) -> bool
+fn is_code(code: u16) -> bool
     ensures { result ≡ is_code code }
 {
     code > 0 && code < 258
@@ -52,7 +52,7 @@ impl Nodes {
     }
 
     // How many codes lead to the cell `t`.
-    pub(super) fn path_length(&self, t: usize) -> usize
+    fn path_length(&self, t: usize) -> usize
         requires upward { Upward self.now.cells.items }
         requires used { 0 < parent self.now.cells.items t }
         ensures { result ≡ length (path_to self.now.cells.items t) }
@@ -68,13 +68,14 @@ impl Nodes {
     }
 
     // Writes the path that leads to the cell `t` into `out`, which is as long as the path.
-    pub(super) fn write_path(&self, t: usize, out: &mut [u16])
+    fn write_path(&self, t: usize, out: &mut [u16])
         requires upward { Upward self.now.cells.items }
         requires used { 0 < parent self.now.cells.items t }
         requires long { length out.old ≡ length (path_to self.now.cells.items t) }
         ensures { out.new ≡ path_to self.now.cells.items t }
     {
         let mut s = t;
+        // By index: of what is written through `iter_mut().rev()` a proof knows nothing afterwards.
         for i in (0..out.len()).rev() {
             let above = self.parent(s);
             out[i] = (s - self.base(above)) as u16;

@@ -1,7 +1,7 @@
 // Giving a node a child: the lowest base with room, and the family that moves there.
 ghost use Rattle.std.specs.Prelude.{◌≡◌, ℕ, ◌+◌, ◌^◌, ◌<◌, length, IfSome, slice_index};
 ghost use Rattle.cells.specs.Cells.{at, base_of};
-ghost use Rattle.cells.specs.Placing.{lowest, repointed, moved, moved_list, reindexed, moves, index_moves, relocated, index_relocated};
+ghost use Rattle.cells.specs.Placing.{lowest, repointed, moved_list, reindexed, moves, index_moves, relocated, index_relocated};
 ghost use Rattle.double_array.specs.Buffers.{SameBuffers};
 ghost use Rattle.double_array.specs.Outcomes.{Given};
 
@@ -16,10 +16,11 @@ fn repoint(cells: &mut [Cell], base: usize, from: usize, to: usize)
     requires base { base < 2 ^ 31 }
     ensures { (j : ℕ) → j < length cells.old → at cells.new j ≡ repointed cells.old base from to 258 j }
 {
-    for code in 1..258 {
-        let t = base + code;
-        if t < cells.len() && cells[t].check == from as i32 {
-            cells[t].check = to as i32;
+    let end = cells.len().min(base + 258);
+    let start = end.min(base + 1);
+    for cell in cells[start..end].iter_mut() {
+        if cell.check == from as i32 {
+            cell.check = to as i32;
         }
     }
 }
@@ -27,7 +28,7 @@ fn repoint(cells: &mut [Cell], base: usize, from: usize, to: usize)
 impl Nodes {
     // The lowest base from 1 up at which each of the codes has a free cell. The search is over bases and, at each, over
     // codes, and a base is left at its first code with a taken cell: a rule of the project.
-    pub(super) fn lowest_base(&self, codes: &[u16]) -> Option<usize>
+    fn lowest_base(&self, codes: &[u16]) -> Option<usize>
         requires { 0 < length codes.now }
         ensures { result ≡ lowest self.now.cells.items codes.now }
     {
@@ -50,16 +51,15 @@ impl Nodes {
         ensures cells { self.new.cells ≡ self.old.cells }
         ensures kept { SameBuffers self.old self.new }
     {
-        if let Some(number) = leaf_number(base) {
-            let entry = number as usize - 1;
-            if entry < self.index.len() {
-                self.index[entry] = to as u32;
-            }
+        if let Some(number) = leaf_number(base)
+            && let Some(entry) = self.index.get_mut(number as usize - 1)
+        {
+            *entry = to as u32;
         }
     }
 
     // Moves the node in the cell `from` to the cell `to`; its children, or its leaf's entry in the index, follow.
-    pub(super) fn move_child(&mut self, from: usize, to: usize)
+    fn move_child(&mut self, from: usize, to: usize)
         requires from_within { from < length self.old.cells.items }
         requires to_within { to < length self.old.cells.items }
         ensures cells { self.new.cells.items ≡ moved_list self.old.cells.items from to }
@@ -77,7 +77,7 @@ impl Nodes {
     }
 
     // Moves the children by these codes from the base `old` to the base `new`.
-    pub(super) fn relocate(&mut self, codes: &[u16], old: usize, new: usize)
+    fn relocate(&mut self, codes: &[u16], old: usize, new: usize)
         requires from { (k : ℕ) → k < length codes.now → old + slice_index codes.now k < length self.old.cells.items }
         requires to { (k : ℕ) → k < length codes.now → new + slice_index codes.now k < length self.old.cells.items }
         ensures cells { self.new.cells.items ≡ moves old new self.old.cells.items codes.now }

@@ -1,5 +1,5 @@
 // Taking a path out: its leaf is freed, and each cell above it that has no child left.
-ghost use Rattle.std.specs.Prelude.{◌≡◌, ◌<◌, length, IfNone};
+ghost use Rattle.std.specs.Prelude.{◌≡◌, ◌<◌, length};
 ghost use Rattle.cells.specs.Pruning.{prune as pruned, root_reset};
 ghost use Rattle.double_array.specs.Buffers.{SameBuffers};
 ghost use Rattle.double_array.specs.Outcomes.{Parented, Taken};
@@ -10,7 +10,7 @@ use cells::Cell;
 
 impl Nodes {
     // Frees the cell `t` and then each cell above it that has no child left, at most `n` cells.
-    pub(super) fn prune(&mut self, t: usize, n: usize)
+    fn prune(&mut self, t: usize, n: usize)
         requires within { t < length self.old.cells.items }
         requires parents { Parented self.old.cells.items }
         ensures cells { self.new.cells.items ≡ pruned n self.old.cells.items t }
@@ -29,7 +29,7 @@ impl Nodes {
     }
 
     // Gives a root without children the base 1.
-    pub(super) fn reset_root(&mut self)
+    fn reset_root(&mut self)
         requires { 1 < length self.old.cells.items }
         ensures cells { self.new.cells.items ≡ root_reset self.old.cells.items }
         ensures index { self.new.index ≡ self.old.index }

@@ -1,7 +1,9 @@
-use Rattle.std.proofs.Common.{◌≡◌, ℕ, ◌<◌, length}
+use Rattle.std.proofs.Common.{◌≡◌, ℕ, ◌<◌, ltb, cond, length}
 use Rattle.cells.specs.Cells.{at}
-use Rattle.cells.specs.Placing.{repointed}
+use Rattle.double_array.proofs.Turning.{turned}
 use Rattle.double_array.proofs.placing.repoint.Given as goal
 
-abbrev pub invariant-loop-code : goal.invariant-loop-code
-invariant-loop-code l = (j : ℕ) → j < length l.cells → at l.cells j ≡ repointed l.initial.cells l.base l.from l.to l.code j
+abbrev pub invariant-loop-cell : goal.invariant-loop-cell
+invariant-loop-cell l =
+    (length l.cell-items ≡ length l.initial.cell-items)
+    × ((k : ℕ) → k < length l.cell-items → at l.cell-items k ≡ cond (ltb k l.cell-index) (turned l.from l.to (at l.initial.cell-items k)) (at l.initial.cell-items k))

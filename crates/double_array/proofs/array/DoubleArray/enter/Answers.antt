@@ -5,9 +5,6 @@ use Rattle.double_array.proofs.Changes.{entry_sound, entry_added}
 use Rattle.double_array.proofs.Sames.{same_array, entry_same, refused_more}
 use Rattle.double_array.proofs.array.DoubleArray.enter.Goals as goal
 
-pub enter-requires : goal.enter-requires
-enter-requires c = sound_from c.args.self.now
-
 pub invariant_of-self : goal.invariant_of-self
 invariant_of-self c =
     let d = c.args.self.now in

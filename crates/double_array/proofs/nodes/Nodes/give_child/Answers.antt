@@ -32,9 +32,9 @@ move_family-requires c =
     λ l e b h. subst (λ x. (k : ℕ) → k < length x → b + get_or x k 0 < length cs) (sym e) h in
     record {
       within = c.requires.within;
-      base = omega (arith, inside c);
-      from = within _ (family c) (base_of cs c.args.s) (codes_within cs c.args.s 258);
-      to = within _ (family c) c.in_ok-new.new (new_within cs c.args.self.now.index.items c.args.s c.args.code c.in_ok-new.new (found c));
+      base = omega (arith, inside (goal.at.move_family-requires c).After-as_slice-2);
+      from = within _ (family (goal.at.move_family-requires c).After-as_slice-2) (base_of cs c.args.s) (codes_within cs c.args.s 258);
+      to = within _ (family (goal.at.move_family-requires c).After-as_slice-2) c.in_ok-new.new (new_within cs c.args.self.now.index.items c.args.s c.args.code c.in_ok-new.new (found (goal.at.move_family-requires c).After-as_slice-2));
     }
 
 pub overflow_add-moved : goal.overflow_add-moved

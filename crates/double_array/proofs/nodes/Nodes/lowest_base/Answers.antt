@@ -1,11 +1,6 @@
-use Rattle.std.proofs.Common.{Some, None, ◌∙◌, arith, below_more}
-use Rattle.std.proofs.lemmas.Bool.{false≢true}
-use Rattle.cells.proofs.Lowests.{decides_free, lowest_is}
+use Rattle.std.proofs.Common.{Some, None, arith}
+use Rattle.cells.proofs.Lowests.{lowest_is}
 use Rattle.double_array.proofs.nodes.Nodes.lowest_base.Goals as goal
-
--- the cell of the code at which the inner loop stopped is not free
-pub bases-preserved : goal.bases-preserved
-bases-preserved c = below_more _ _ c.bases.invariant (λ h all. false≢true (c.if-not-is_free.ensures ∙ (decides_free _ _).1 (all c.loop-code.code-index c.loop-code-test.true)))
 
 -- each code has a free cell at this base, and none below it was so
 pub returns-in-bases : goal.returns-in-bases

@@ -1,9 +1,8 @@
-use Rattle.std.proofs.Common.{List, set, ap, ◌∙◌, arith, w32, rules}
-use Rattle.std.proofs.lemmas.Int.{to_z-of_z}
+use Rattle.std.proofs.Common.{List, set, ap, ◌∙◌, arith, rules}
 use Rattle.std.proofs.lemmas.List.{with_items_is, length-set}
 use Rattle.cells.specs.declared.Cell.{Cell}
 use Rattle.cells.specs.Cells.{at, free_cell}
-use Rattle.cells.specs.Placing.{moved_list, reindexed}
+use Rattle.cells.specs.Placing.{moved_list}
 use Rattle.double_array.proofs.Moving.{moved_is}
 use Rattle.double_array.proofs.nodes.Nodes.move_child.Goals as goal
 use Rattle.double_array.proofs.nodes.Nodes.move_child.Goals.{then-cell-gt0, else-cell-gt0}
@@ -18,9 +17,3 @@ returns-clause-cells c =
     ∙ with_items_is c.args.self.now.cells written (simp length-set (omega arith))
     ∙ moved_is cs ms from c.args.to (omega arith) (omega arith) (omega arith) (λ j h. elim c.if-cell-gt0.branch [ then-cell-gt0 w ↦ search rules | else-cell-gt0 w ↦ search rules ])
     ∙ ap (λ l. moved_list l from c.args.to) c.as_mut_slice-cells.ensures.value
-
-pub returns-clause-leaves : goal.returns-clause-leaves
-returns-clause-leaves c =
-    let cs = c.as_mut_slice-cells.result.now in
-    c.note_leaf.ensures.leaves
-    ∙ ap (λ z. reindexed c.args.self.now.index.items z c.args.to) (to_z-of_z w32 (at cs c.args.from).base (search rules) ∙ ap (λ l. (at l c.args.from).base) c.as_mut_slice-cells.ensures.value)
