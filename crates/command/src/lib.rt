@@ -28,7 +28,7 @@ const LAST_RELATION: u32 = 255;
 const LAST_COUNT: u32 = 4_294_967_295;
 
 // A command, with its words as they stand in the line.
-#[derive(Clone, Copy, Debug)]
+#[derive(Clone, Copy, PartialEq, Eq, Debug)]
 pub enum Command<'a> {
     // Enters X and Y, and their triple with the count.
     Add {
