@@ -9,6 +9,13 @@ fn words<'a>(x: &'a [u8], relation: u8, y: &'a [u8]) -> WordTriple<'a, u8> {
     WordTriple { x, relation, y }
 }
 
+// Each line is the command beside it.
+fn check_asked(rt: &impl Abort, cases: &[(&[u8], Command<'_>)]) {
+    for (line, command) in cases {
+        assert_eq!(rt; parse(line), Ok(*command));
+    }
+}
+
 // None of the lines is a command.
 fn check_refused(rt: &impl Abort, lines: &[&[u8]]) {
     for line in lines {
@@ -33,9 +40,7 @@ fn each_letter(rt: HostRuntime) {
             },
         ),
     ];
-    for (line, command) in cases {
-        assert_eq!(rt; parse(line), Ok(command));
-    }
+    check_asked(&rt, &cases);
 }
 
 #[test]
@@ -52,9 +57,7 @@ fn words_of_any_bytes(rt: HostRuntime) {
             },
         ),
     ];
-    for (line, command) in cases {
-        assert_eq!(rt; parse(line), Ok(command));
-    }
+    check_asked(&rt, &cases);
 }
 
 #[test]
@@ -74,9 +77,7 @@ fn numbers_at_their_limits(rt: HostRuntime) {
             },
         ),
     ];
-    for (line, command) in cases {
-        assert_eq!(rt; parse(line), Ok(command));
-    }
+    check_asked(&rt, &cases);
     let lines: [&[u8]; 10] = [
         b"A\tx\ty\t256\t1",
         b"A\tx\ty\t1\t4294967296",
