@@ -19,13 +19,10 @@ unfolding read_on
 read_ge n [] = omega arith
 read_ge n (b ∷ bs) = let more : 10 * n + (b - 48) ≤ read_on (10 * n + (b - 48)) bs = read_ge (10 * n + (b - 48)) bs in omega arith
 
--- a text that is no number for one of the three reasons
+-- a text that is no number since it is not plain or too large
 module _ (limit : ℕ) (s : List ℕ) where
   pub none_unplain : plain s ≡ false → number_of limit s ≡ None
   none_unplain e = cond-false (is_number limit s) _ _ (and_left _ _ e)
-
-  pub none_undigits : all_ascii_digits s ≡ false → number_of limit s ≡ None
-  none_undigits e = cond-false (is_number limit s) _ _ (and_right (plain s) _ (and_left _ _ e))
 
   pub none_over : limit < read_on 0 s → number_of limit s ≡ None
   none_over over = cond-false (is_number limit s) _ _ (and_right (plain s) _ (and_right (all_ascii_digits s) _ (lt-leb (read_on 0 s) limit over)))
@@ -53,18 +50,12 @@ module _ (s : List ℕ) (i n : ℕ) (so_far : Reading s i n) (within : i < lengt
   next_digits : all_ascii_digits s ≡ (is_ascii_digit (get_or s i 0) && all_ascii_digits (drop (i + 1) s))
   next_digits = so_far.digits ∙ at_drop_more all_ascii_digits s i 0 within
 
-  pub reading_more : 48 ≤ get_or s i 0 → get_or s i 0 ≤ 57 → Reading s (i + 1) (10 * n + (get_or s i 0 - 48))
+  pub reading_more : is_ascii_digit (get_or s i 0) ≡ true → Reading s (i + 1) (10 * n + (get_or s i 0 - 48))
   unfolding read_on
-  reading_more low high = record {
+  reading_more digit = record {
     value = so_far.value ∙ at_drop_more (read_on n) s i 0 within;
-    digits = next_digits ∙ ap (λ (t : Bool). t && all_ascii_digits (drop (i + 1) s)) (and_from _ _ (le-leb 48 (get_or s i 0) low) (le-leb (get_or s i 0) 57 high));
+    digits = next_digits ∙ ap (λ (t : Bool). t && all_ascii_digits (drop (i + 1) s)) digit;
   }
-
-  pub reading_low : get_or s i 0 < 48 → all_ascii_digits s ≡ false
-  reading_low low = next_digits ∙ and_left _ _ (and_left _ _ (lt-leb 48 (get_or s i 0) low))
-
-  pub reading_high : 57 < get_or s i 0 → all_ascii_digits s ≡ false
-  reading_high high = next_digits ∙ and_left _ _ (and_right (leb 48 (get_or s i 0)) _ (lt-leb (get_or s i 0) 57 high))
 
 -- the number is at least what was read so far
 pub reading_ge : (s : List ℕ) (i n : ℕ) → Reading s i n → n ≤ read_on 0 s

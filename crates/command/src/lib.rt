@@ -28,7 +28,7 @@ const LAST_RELATION: u32 = 255;
 const LAST_COUNT: u32 = 4_294_967_295;
 
 // A command, with its words as they stand in the line.
-#[derive(Clone, Copy, Debug)]
+#[derive(Clone, Copy, PartialEq, Eq, Debug)]
 pub enum Command<'a> {
     // Enters X and Y, and their triple with the count.
     Add {
@@ -61,6 +61,7 @@ fn first_tab(text: &[u8]) -> Option<usize>
 }
 
 // The first field and the rest after its tab; none where there is no tab.
+#[tactic(auto, using(crate::proofs::Cuts::fields_none, crate::proofs::Cuts::fields_at))]
 fn cut(text: &[u8]) -> Option<(&[u8], &[u8])>
     ensures { MatchOption result (fields text.now ≡ text.now ∷ []) (λ p. fields text.now ≡ p.0.now ∷ fields p.1.now) }
 {
@@ -69,6 +70,7 @@ fn cut(text: &[u8]) -> Option<(&[u8], &[u8])>
 }
 
 // The fields where there are just two.
+#[tactic(auto, using(crate::proofs::Cuts::fields_some))]
 fn two(text: &[u8]) -> Option<(&[u8], &[u8])>
     ensures { MatchOption result (length (fields text.now) ≢ 2) (λ p. fields text.now ≡ p.0.now ∷ (p.1.now ∷ [])) }
 {
@@ -102,13 +104,13 @@ fn number(digits: &[u8], limit: u32) -> Option<u32>
     ensures value { result ≡ number_of limit digits.now }
     ensures bound { IfSome result (λ n. n ≤ limit) }
 {
-    match digits {
-        [] | [b'0', _, ..] => return None,
-        _ => {}
+    if let [] | [b'0', _, ..] = digits {
+        return None;
     }
+    // A loop: a fold would hold the same two tests and the same sum in a closure.
     let mut n = 0u64;
     for digit in digits {
-        if *digit < b'0' || *digit > b'9' {
+        if !digit.is_ascii_digit() {
             return None;
         }
         n = 10 * n + (*digit - b'0') as u64;
@@ -173,6 +175,7 @@ fn letter_asks(letter: char, rest: &[u8]) -> Option<Command<'_>>
 // The command that a line is, without its line feed. Any other line, and any line of more than 127
 // bytes, is refused. A line is a command just where it is the text of that command, and digits are a
 // number just where they are its decimal text.
+#[tactic(auto, using(crate::proofs::Belong::one_to_one, crate::proofs::Lines::line_long, crate::proofs::Lines::line_asks))]
 pub fn parse(line: &[u8]) -> Result<Command<'_>, Refusal>
     ensures command { MatchResult result (λ c. asked_by line.now ≡ Some (seen c)) (λ e. (e ≡ MalformedLine) × (asked_by line.now ≡ None)) }
     ensures lines { OneToOne }

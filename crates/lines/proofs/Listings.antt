@@ -1,8 +1,6 @@
 -- Rows with their counts, one after another, and the text of a listing.
-use Rattle.std.proofs.Common.{◌≡◌, ℕ, ◌+◌, ◌<◌, ◌≤◌, Bool, true, false, cond, not, ltb, leb, List, [], ◌∷◌, ◌++◌, map, length, get_or, take, Some, None, Ok, codes, Option, Result, sym, refl, ap, ◌∙◌, subst, arith, length-take}
-use lib.ListN.{length-map}
-use Rattle.std.proofs.lemmas.List.{take_more, map_push}
-use Rattle.std.proofs.lemmas.Bool.{cond-true, lt-ltb, le-leb, ltb-false}
+use Rattle.std.proofs.Common.{◌≡◌, ℕ, ◌≤◌, Bool, true, false, cond, not, ltb, leb, List, map, length, take, Some, None, Ok, codes, Option, Result, refl, ap, ◌∙◌, subst, arith}
+use Rattle.std.proofs.lemmas.Bool.{cond-true, le-leb, ltb-false}
 use Rattle.refusal.specs.declared.Side.TheVariants.{First}
 use Rattle.refusal.specs.declared.Refusal.{Refusal}
 use Rattle.refusal.specs.declared.Refusal.TheVariants.{WordLength, UnknownWord, OutputTooShort}
@@ -14,23 +12,8 @@ use Rattle.listing.specs.declared.row.LinkRow.{LinkRow}
 use Rattle.history.specs.declared.replies.Reply.TheVariants.{Listed}
 use Rattle.history.specs.Refusals.{first, none, list_refusals}
 use Rattle.history.specs.Calls.{Decided, replied}
-use Rattle.share.specs.Shares.{count_at}
-use Rattle.line_text.specs.declared.rows.LineRow.{LineRow}
 use Rattle.line_text.specs.Texts.{rows_text}
 use Rattle.lines.specs.Lines.{row_of, listing_line, listed_text}
-
--- one row more, where there is a place
-pub counted_more : (records : List Tally) (rows : List LinkRow) (i : ℕ) (d : LinkRow) (held later : List LineRow) (n : ℕ) → i < length rows → length rows ≤ 100 → held ≡ map (row_of records) (take i rows)
-    → n ≡ count_at records (get_or rows i d).link → later ≡ cond (ltb (length held) 100) (held ++ record { relation = (get_or rows i d).relation; y = (get_or rows i d).y; count = n } ∷ []) held
-    → later ≡ map (row_of records) (take (i + 1) rows)
-counted_more records rows i d held later n within few inv count after =
-    let long : length held ≡ i = ap length inv ∙ length-map (take i rows) (row_of records) ∙ simp length-take (omega arith) in
-    let room : ltb (length held) 100 ≡ true = lt-ltb (length held) 100 (omega arith) in
-    let row = get_or rows i d in
-    after ∙ cond-true (ltb (length held) 100) (held ++ record { relation = row.relation; y = row.y; count = n } ∷ []) held room
-    ∙ ap (λ (k : ℕ). held ++ record { relation = row.relation; y = row.y; count = k } ∷ []) count
-    ∙ ap (λ (l : List LineRow). l ++ row_of records row ∷ []) inv
-    ∙ sym (ap (map (row_of records)) (take_more rows i d within) ∙ map_push (row_of records) (take i rows) row)
 
 -- no refusal of list applies, so the rows fit
 rows_fit : {S : Type 0} (x : List S) (a : Option ℕ) (places rows : ℕ) → first (list_refusals x a places rows) ≡ None → rows ≤ places

@@ -46,15 +46,14 @@ fn found_answer(
 ) -> Result<LineAnswer, Refusal>
     ensures { answer_text result ≡ found_text records.now reply }
 {
-    match reply {
-        Ok(Reply::Found(Some(link))) => Ok(LineAnswer::Found {
-            x: link.x,
-            y: link.y,
-            count: count_at(records, link.number),
-        }),
-        Ok(_) => Ok(LineAnswer::Absent),
-        Err(refusal) => Err(refusal),
-    }
+    let Reply::Found(Some(link)) = reply? else {
+        return Ok(LineAnswer::Absent);
+    };
+    Ok(LineAnswer::Found {
+        x: link.x,
+        y: link.y,
+        count: count_at(records, link.number),
+    })
 }
 
 // Finds a triple, with its count.
@@ -80,13 +79,11 @@ fn listed_answer(
 ) -> Result<LineAnswer, Refusal>
     ensures { answer_text result ≡ listed_text records.now rows.now reply }
 {
-    match reply {
-        Ok(Reply::Listed(count)) if count <= ROWS => Ok(LineAnswer::Listing(counted(
-            records,
-            &rows[0..count],
-        ))),
-        Ok(_) => Ok(LineAnswer::Absent),
-        Err(refusal) => Err(refusal),
+    match reply? {
+        Reply::Listed(count) if count <= ROWS => {
+            Ok(LineAnswer::Listing(counted(records, &rows[..count])))
+        }
+        _ => Ok(LineAnswer::Absent),
     }
 }
 

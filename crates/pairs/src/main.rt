@@ -29,32 +29,22 @@ struct Store {
     records: Vec<Tally>,
 }
 
-// Makes one call and answers what it replies.
-fn call(
-    store: &mut Store,
-    request: GrowingRequest<'_, u8, Tally>,
-) -> Result<Reply<Tally>, Refusal> {
-    let mut rows = [LinkRow {
-        relation: 0,
-        y: 0,
-        link: 0,
-    }; 0];
-    perform_growing(
-        &mut store.table,
-        &mut store.list,
-        store.records.as_mut_slice(),
-        &mut rows,
-        request,
-    )
-}
-
-// The cell of the leaf of each link number, 0 for a number without one.
-fn leaves(store: &Store) -> [u32; LINKS] {
-    let mut leaves = [0u32; LINKS];
-    for (leaf, cell) in leaves.iter_mut().zip(store.table.links().index()) {
-        *leaf = *cell;
+impl Store {
+    // Makes one call and answers what it replies.
+    fn call(&mut self, request: GrowingRequest<'_, u8, Tally>) -> Result<Reply<Tally>, Refusal> {
+        let mut rows: [LinkRow; 0] = [];
+        let records = self.records.as_mut_slice();
+        perform_growing(&mut self.table, &mut self.list, records, &mut rows, request)
     }
-    leaves
+
+    // The cell of the leaf of each link number, 0 for a number without one.
+    fn leaves(&self) -> [u32; LINKS] {
+        let mut leaves = [0u32; LINKS];
+        for (leaf, cell) in leaves.iter_mut().zip(self.table.links().index()) {
+            *leaf = *cell;
+        }
+        leaves
+    }
 }
 
 // Prints what a call replied.
@@ -93,13 +83,12 @@ fn ask(
     what: &str,
     request: GrowingRequest<'_, u8, Tally>,
 ) -> io::Result<()> {
-    let reply = call(store, request);
-    show(rt, what, reply)
+    show(rt, what, store.call(request))
 }
 
 // Prints each link number whose leaf has moved, and what reading it gives.
 fn show_moves(rt: &HostRuntime, store: &mut Store, before: &[u32; LINKS]) -> io::Result<()> {
-    let after = leaves(store);
+    let after = store.leaves();
     for (place, (old, new)) in before.iter().zip(after.iter()).enumerate() {
         if *old != 0 && *new != 0 && *old != *new {
             let link = place as u32 + 1;
@@ -123,7 +112,7 @@ fn add_pairs(rt: &HostRuntime, store: &mut Store) -> io::Result<()> {
         (b"rain", b"tie", 6, 8),
     ];
     for (x, y, relation, count) in pairs {
-        let before = leaves(store);
+        let before = store.leaves();
         let words = WordTriple { x, relation, y };
         let record = Tally { count };
         ask(rt, store, "add", GrowingRequest::Add { words, record })?;
@@ -165,7 +154,7 @@ fn take_and_tie(rt: &HostRuntime, store: &mut Store) -> io::Result<()> {
         ),
         ("tie", Request::Tie { words: bow, record }),
     ];
-    let before = leaves(store);
+    let before = store.leaves();
     for (what, request) in requests {
         ask(rt, store, what, request.into())?;
     }

@@ -25,6 +25,7 @@ fn make<'a, S: Script, L: ReadableList, R: Record>(
 ) -> Result<Reply<R>, Refusal>
     ensures { L.ReadableList.sound list.now → Steps (kit_of S.Script L.ReadableList R.Record) (λ _ _. false) anything (state_of list.now table.old.links records.old) out.old (call_of request.entry) result (state_of list.now table.new.links records.new) out.new }
 {
+    // `?` and not `map`: the checker follows no case of the generic `Reply` as a function.
     match request {
         Request::Tie { words, record } => {
             Ok(Reply::Linked(table.tie(list, records, words, record)?))

@@ -9,7 +9,7 @@ ghost use Rattle.std.specs.Prelude.{◌≡◌, ⊤};
 use std::alloc::AllocError;
 
 // X, the relation and Y, as a call asks about them: X stands to Y in the relation.
-#[derive(Debug)]
+#[derive(PartialEq, Eq, Debug)]
 pub struct WordTriple<'a, S> {
     pub x: &'a [S],
     pub relation: u8,

@@ -1,6 +1,4 @@
-use Rattle.std.proofs.Common.{◌≡◌, Ok, Err, ap, ◌∙◌}
-use Rattle.std.proofs.lemmas.Result.{err_from_is_err_and}
-use Rattle.refusal.specs.declared.Refusal.{Refusal}
+use Rattle.std.proofs.Common.{◌≡◌, Ok, ap, ◌∙◌, rules}
 use Rattle.script.proofs.Apart.{words_apart}
 use Rattle.link_table.specs.declared.table.LinkTable.{LinkTable}
 use Rattle.store.specs.Links.{word_kit, link_answer}
@@ -11,23 +9,11 @@ use Rattle.share.proofs.Laws.{share_law}
 use Rattle.share.proofs.Rounds.{nearest}
 use Rattle.share.proofs.share.Goals as goal
 
-pub returns-in_err-link : goal.returns-in_err-link
-returns-in_err-link g c =
-    let l = c.args.list.now in
-    let t = c.args.table.now.links in
-    let rs = c.args.records.now in
-    let x = c.args.words.x.now in
-    let y = c.args.words.y.now in
-    let q = c.args.words.relation in
+pub returns-in_err-link-clause-law : goal.returns-in_err-link-clause-law
+returns-in_err-link-clause-law g c =
     let m = g.met.S.Script in
-    let p = err_from_is_err_and c.from_residual.result c.from_residual.ensures.1 in
-    let answer : g.L.ReadableList.sound l → c.from_residual.result ≡ share_answer t rs q (link_answer (word_kit g.S.Script g.L.ReadableList) l t x y q) =
-    λ ok. p.1 ∙ ap (λ (e : Refusal). Err e) p.2 ∙ ap (share_answer t rs q) (c.in_err-link.ensures ok) in
-    record {
-      answer = answer;
-      nearest = nearest;
-      law = share_law (tally_kit g.S.Script g.L.ReadableList) (words_apart g.S.Script.spelling g.S.Script.width m.narrow.0 m.even m.apart) l t rs x y q c.from_residual.result answer;
-    }
+    share_law (tally_kit g.S.Script g.L.ReadableList) (words_apart g.S.Script.spelling g.S.Script.width m.narrow.0 m.even m.apart)
+    c.args.list.now c.args.table.now.links c.args.records.now c.args.words.x.now c.args.words.y.now c.args.words.relation c.from_residual.result (λ ok. search rules)
 
 pub returns : goal.returns
 returns g c =
