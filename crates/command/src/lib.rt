@@ -75,10 +75,7 @@ fn two(text: &[u8]) -> Option<(&[u8], &[u8])>
     ensures { MatchOption result (length (fields text.now) ≢ 2) (λ p. fields text.now ≡ p.0.now ∷ (p.1.now ∷ [])) }
 {
     let (first, second) = cut(text)?;
-    match cut(second) {
-        Some(_) => None,
-        None => Some((first, second)),
-    }
+    cut(second).is_none().then_some((first, second))
 }
 
 // The fields where there are just three.
