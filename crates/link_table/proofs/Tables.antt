@@ -43,10 +43,6 @@ abbrev pub Fields : DoubleArray → ℕ → Type 0
 Fields d count =
     record { few : length (index_of d) ≤ 1048575; triples : Triples (cells_of d); numbered : Numbered (cells_of d) (length (index_of d)); counted : count ≡ length (held (index_of d)) }
 
--- an array that is as it was
-pub same_fields : (s : LinkTable) (d : DoubleArray) → d ≡ s.array → Fields d s.count
-same_fields s d e = subst (λ (x : DoubleArray). Fields x s.count) (sym e) (record { few = s.few; triples = s.triples; numbered = s.numbered; counted = s.counted })
-
 -- two tables with the same array, count and cursor
 pub same_table : (s t : LinkTable) → s.array ≡ t.array → s.count ≡ t.count → s.cursor ≡ t.cursor → s ≡ t
 same_table s t p q r = λ j. record {
