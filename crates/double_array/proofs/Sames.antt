@@ -24,20 +24,12 @@ same_array d e p = λ j. record {
   entered = is_prop→PathP (λ k. Entered (vec_items (p k).cells) (vec_items (p k).index)) (λ k. hlevel props) d.entered e.entered j;
 }
 
--- a refused entry leaves the array as it was
-pub entry_same : (cs : List Cell) (is p : List ℕ) (u : ℕ) (r : Result (Unit {0}) PathFault) (xs : List Cell) (js : List ℕ) → Entry cs is p u r xs js → IfErr r (λ _. (xs ≡ cs) × (js ≡ is))
-entry_same cs is p u (Ok _) xs js done = tt
-entry_same cs is p u (Err e) xs js done = (done.1, done.2)
-
-pub refused_more : {T E : Type 0} (r : Result T E) (P Q : Type 0) → (P → Q) → IfErr r (λ _. P) → IfErr r (λ _. Q)
-refused_more (Ok x) P Q f h = tt
-refused_more (Err e) P Q f h = f h
+-- a refused entry leaves the cells and the index as they were
+pub entry_same : (cs : List Cell) (is p : List ℕ) (u : ℕ) (r : Result (Unit {0}) PathFault) (xs : List Cell) (js : List ℕ) (Q : Type 0) → (xs ≡ cs → js ≡ is → Q) → Entry cs is p u r xs js → IfErr r (λ _. Q)
+entry_same cs is p u (Ok _) xs js Q same done = tt
+entry_same cs is p u (Err e) xs js Q same done = same done.1 done.2
 
 -- and so does taking out a path that is not held
-pub taken_same : (cs : List Cell) (is p : List ℕ) (r : Option ℕ) (xs : List Cell) (js : List ℕ) → Taken cs is p r xs js → IfNone r ((xs ≡ cs) × (js ≡ is))
-taken_same cs is p None xs js done = (done.1, done.2)
-taken_same cs is p (Some u) xs js done = tt
-
-pub none_more : {T : Type 0} (r : Option T) (P Q : Type 0) → (P → Q) → IfNone r P → IfNone r Q
-none_more None P Q f h = f h
-none_more (Some x) P Q f h = tt
+pub taken_same : (cs : List Cell) (is p : List ℕ) (r : Option ℕ) (xs : List Cell) (js : List ℕ) (Q : Type 0) → (xs ≡ cs → js ≡ is → Q) → Taken cs is p r xs js → IfNone r Q
+taken_same cs is p None xs js Q same done = same done.1 done.2
+taken_same cs is p (Some u) xs js Q same done = tt

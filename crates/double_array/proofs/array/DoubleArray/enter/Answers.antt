@@ -2,7 +2,7 @@ use Rattle.double_array.specs.Views.{cells_of, index_of}
 use Rattle.double_array.proofs.Fields.{fields, sound_from}
 use Rattle.double_array.proofs.Buffers.{same_nodes}
 use Rattle.double_array.proofs.Changes.{entry_sound, entry_added}
-use Rattle.double_array.proofs.Sames.{same_array, entry_same, refused_more}
+use Rattle.double_array.proofs.Sames.{same_array, entry_same}
 use Rattle.double_array.proofs.array.DoubleArray.enter.Goals as goal
 
 pub invariant_of-self : goal.invariant_of-self
@@ -26,5 +26,5 @@ returns c =
       cells = done;
       sizes = kept.2;
       paths = entry_added (cells_of d) (index_of d) p u xs js (sound_from d) c.enter.result done;
-      same = refused_more c.enter.result _ _ (λ w. same_array _ d (same_nodes d.nodes n kept w.0 w.1)) (entry_same (cells_of d) (index_of d) p u c.enter.result xs js done);
+      same = entry_same (cells_of d) (index_of d) p u c.enter.result xs js _ (λ e f. same_array _ d (same_nodes d.nodes n kept e f)) done;
     }

@@ -5,7 +5,7 @@ use Rattle.double_array.proofs.Fields.{fields, sound_from}
 use Rattle.double_array.proofs.Buffers.{same_nodes}
 use Rattle.double_array.proofs.Growing.{tree_parents}
 use Rattle.double_array.proofs.Changes.{taken_sound, taken_removed}
-use Rattle.double_array.proofs.Sames.{same_array, taken_same, none_more}
+use Rattle.double_array.proofs.Sames.{same_array, taken_same}
 use Rattle.double_array.proofs.array.DoubleArray.remove.Goals as goal
 
 pub take_out-requires : goal.take_out-requires
@@ -33,5 +33,5 @@ returns c =
       cells = done;
       sizes = kept.2;
       paths = taken_removed (cells_of d) (index_of d) p xs js (sound_from d) c.take_out.result done;
-      same = none_more c.take_out.result _ _ (λ w. same_array _ d (same_nodes d.nodes n kept w.0 w.1)) (taken_same (cells_of d) (index_of d) p c.take_out.result xs js done);
+      same = taken_same (cells_of d) (index_of d) p c.take_out.result xs js _ (λ e f. same_array _ d (same_nodes d.nodes n kept e f)) done;
     }
