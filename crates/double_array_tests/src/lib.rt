@@ -32,23 +32,16 @@ mod tests {
 
     // What the table says of the cell: free where it says nothing.
     fn expected(table: &[Entry], place: usize) -> Cell {
-        for entry in table {
-            if entry.place == place {
-                return entry.cell;
-            }
-        }
-        Cell::FREE
+        table
+            .iter()
+            .find(|entry| entry.place == place)
+            .map_or(Cell::FREE, |entry| entry.cell)
     }
 
     // Whether the cells are as in the table, and all others free.
     fn cells_are(array: &DoubleArray, table: &[Entry]) -> bool {
-        let cells = array.cells();
-        for i in 0..cells.len() {
-            if cells[i] != expected(table, i) {
-                return false;
-            }
-        }
-        true
+        let mut cells = array.cells().iter().enumerate();
+        cells.all(|(place, cell)| *cell == expected(table, place))
     }
 
     #[test]

@@ -17,10 +17,10 @@ fn list(heap: Global, cells: usize, index: usize) -> Result<TrieList, AllocError
 
 // The cell at a place, and a free one past the end.
 fn cell(words: &TrieList, at: usize) -> (i32, i32) {
-    match words.cells().get(at) {
-        Some(cell) => (cell.base, cell.check),
-        None => (0, 0),
-    }
+    words
+        .cells()
+        .get(at)
+        .map_or((0, 0), |cell| (cell.base, cell.check))
 }
 
 // The cells hold these pairs at these places.
