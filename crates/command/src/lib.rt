@@ -87,7 +87,8 @@ fn three(text: &[u8]) -> Option<(&[u8], &[u8], &[u8])>
     Some((first, second, third))
 }
 
-// The fields where there are just four.
+// The fields where there are just four. One function of as many fields as its type says would hand out
+// an array of slices, of which a contract names each by its place, and be no plainer.
 fn four(text: &[u8]) -> Option<(&[u8], &[u8], &[u8], &[u8])>
     ensures { MatchOption result (length (fields text.now) ≢ 4) (λ p. fields text.now ≡ p.0.now ∷ (p.1.now ∷ (p.2.now ∷ (p.3.now ∷ [])))) }
 {
@@ -104,7 +105,8 @@ fn number(digits: &[u8], limit: u32) -> Option<u32>
     if let [] | [b'0', _, ..] = digits {
         return None;
     }
-    // A loop: a fold would hold the same two tests and the same sum in a closure.
+    // A loop: a fold would hold the same two tests and the same sum in a closure. The library's reading
+    // of numbers takes a sign and leading zeros, which a line may not have.
     let mut n = 0u64;
     for digit in digits {
         if !digit.is_ascii_digit() {

@@ -55,6 +55,7 @@ fn labels_of<L: ReadableList>(list: &L, number: u16) -> usize
 pub fn labels_held<L: ReadableList>(list: &L) -> usize
     ensures { L.ReadableList.sound list.now → result ≡ labels_in (L.ReadableList.roll list.now) }
 {
+    // A loop: of a chain's `sum` the bound is not proved (tried).
     let mut labels = 0usize;
     for index in 0..list.count() {
         labels += labels_of(list, index + 1);

@@ -97,11 +97,8 @@ fn listed(
 ) -> Result<LineAnswer, Refusal>
     ensures { Carried (state_of list.old table.old.links records.old) (Some (list_asked x.now relation)) (answer_text result) (state_of list.new table.new.links records.new) }
 {
-    let mut rows = [LinkRow {
-        relation: 0,
-        y: 0,
-        link: 0,
-    }; ROWS];
+    // Rows are written into an output that is lent: a rule of the project.
+    let mut rows = [LinkRow::default(); ROWS];
     let request = GrowingRequest::Other(Request::List { x, relation });
     let reply = perform_growing(table, list, records, &mut rows, request);
     listed_answer(records, &rows, reply)

@@ -40,6 +40,7 @@ impl LinkTable {
         if self.count == self.limit() {
             return Err(LinkFault::NumbersHeld);
         }
+        // By `let else`, here and below: through `ok_or` and `?` a proof has to find the case again (tried).
         let Some(place) = vacant(self.array.index(), self.cursor) else {
             return Err(LinkFault::NumbersHeld);
         };

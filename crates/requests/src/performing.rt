@@ -1,4 +1,7 @@
 // Any of the calls, made by a request: the law of every history stands here.
+//
+// There are two entries, since add needs a list that grows and the other calls do not; each takes the
+// table, the list and the records side by side, a rule of the project.
 ghost use Rattle.std.specs.Prelude.{false};
 ghost use Rattle.history.specs.Kits.{kit_of, state_of};
 ghost use Rattle.history.specs.Calls.{Steps};

@@ -34,12 +34,8 @@ pub(super) fn total(table: &LinkTable, records: &[Tally], x: u16, relation: u8) 
     ensures sum { result ≡ total_of table.now records.now x relation }
     ensures most { result ≤ 2 ^ 48 }
 {
-    let blank = LinkRow {
-        relation: 0,
-        y: 0,
-        link: 0,
-    };
-    let mut rows = [blank; 256];
+    // A block of rows is written into an output that is lent: a rule of the project.
+    let mut rows = [LinkRow::default(); 256];
     let mut sum = 0;
     for upper in 0..=255u8 {
         let count = list_upper(table, x, relation, upper, &mut rows);

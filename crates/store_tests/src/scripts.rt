@@ -27,12 +27,7 @@ fn store<S: Script>(heap: Global) -> Result<(TrieList, RelationTable), AllocErro
 fn wide_words_by_requests(rt: HostRuntime) -> Result<(), Fail> {
     let (mut list, mut table) = store::<u16>(rt.alloc())?;
     let mut records = [ONE; 4];
-    let blank = LinkRow {
-        relation: 0,
-        y: 0,
-        link: 0,
-    };
-    let mut rows = [blank; 1];
+    let mut rows = [LinkRow::default(); 1];
     let x: &[u16] = &[0x96e8, 0x5408];
     let y: &[u16] = &[0x7fbd];
     let words = WordTriple { x, relation: 3, y };

@@ -1,4 +1,7 @@
 // How much room the numbers below a cell take: a walk over cells and a walk over edges.
+//
+// That two walks call each other, with the codes left falling, is a rule of the project; so they hand on
+// the array, the cell and the codes left, here and in the walks that write.
 ghost use Rattle.std.specs.Prelude.{◌≡◌};
 ghost use Rattle.double_array.specs.Views.{cells_of};
 ghost use Rattle.subtrie.specs.Below.{edge_numbers, numbers_below, room_after};

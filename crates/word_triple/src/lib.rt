@@ -16,7 +16,7 @@ pub struct WordTriple<'a, S> {
     pub y: &'a [S],
 }
 
-// By hand, since a derive would copy it only where the symbols themselves can be copied.
+// By hand, since a derive would clone it only where the symbols themselves can be cloned.
 impl<'a, S> Clone for WordTriple<'a, S> {
     ghost is_clone = { λ words copy. copy ≡ words };
 
