@@ -137,13 +137,20 @@ fn word_fields(rest: &[u8]) -> Option<(&[u8], u8)>
     Some((x, relation))
 }
 
+// The triple of X, Y and the digits of a relation.
+fn triple_of<'a>(x: &'a [u8], y: &'a [u8], digits: &[u8]) -> Option<WordTriple<'a, u8>>
+    ensures relation { option_map (λ w. w.relation) result ≡ number_of 255 digits.now }
+    ensures words { IfSome result (λ w. (w.x.now ≡ x.now) × (w.y.now ≡ y.now)) }
+{
+    relation_in(digits).map(|relation| WordTriple { x, relation, y })
+}
+
 // The fields of D, F and S: X, Y and the relation.
 fn triple_fields(rest: &[u8]) -> Option<WordTriple<'_, u8>>
     ensures { option_map (λ w. (w.x.now, w.y.now, w.relation)) result ≡ pair_fields (fields rest.now) }
 {
     let (x, y, digits) = three(rest)?;
-    let relation = relation_in(digits)?;
-    Some(WordTriple { x, relation, y })
+    triple_of(x, y, digits)
 }
 
 // The fields of A and T: X, Y, the relation and the count.
@@ -151,9 +158,9 @@ fn count_fields(rest: &[u8]) -> Option<(WordTriple<'_, u8>, u32)>
     ensures { option_map (λ p. (p.0.x.now, p.0.y.now, p.0.relation, p.1)) result ≡ count_fields (fields rest.now) }
 {
     let (x, y, digits, more) = four(rest)?;
-    let relation = relation_in(digits)?;
+    let words = triple_of(x, y, digits)?;
     let count = number(more, LAST_COUNT)?;
-    Some((WordTriple { x, relation, y }, count))
+    Some((words, count))
 }
 
 // What a letter with its fields asks for.

@@ -128,23 +128,18 @@ pub(super) fn answer(
     match command {
         Command::Add { words, count } => {
             let record = Tally { count };
-            done(table, list, records, GrowingRequest::Add { words, record })
+            let request = GrowingRequest::Add { words, record };
+            done(table, list, records, request)
         }
         Command::Tie { words, count } => {
             let record = Tally { count };
-            done(
-                table,
-                list,
-                records,
-                GrowingRequest::Other(Request::Tie { words, record }),
-            )
+            let request = GrowingRequest::Other(Request::Tie { words, record });
+            done(table, list, records, request)
         }
-        Command::Delete(words) => done(
-            table,
-            list,
-            records,
-            GrowingRequest::Other(Request::Delete { words }),
-        ),
+        Command::Delete(words) => {
+            let request = GrowingRequest::Other(Request::Delete { words });
+            done(table, list, records, request)
+        }
         Command::Find(words) => found(table, list, records, words),
         Command::List { x, relation } => listed(table, list, records, x, relation),
         Command::Share(words) => shared(table, list, records, words),
