@@ -8,7 +8,7 @@
 
 ghost use Rattle.std.specs.Prelude.{◌≡◌, ℕ, ◌≤◌, List, length, IfOk};
 ghost use Rattle.std.specs.Result.{result_map_both};
-ghost use Rattle.script.specs.Words.{word_sized, spell_answer, WordsApart};
+ghost use Rattle.script.specs.Words.{spell_answer, WordsApart};
 
 use arrayvec::ArrayVec;
 use refusal::SpellFault;
@@ -40,14 +40,6 @@ pub trait Script {
     ghost apart: { (x y : Self) → spelling x ≡ spelling y → x ≡ y };
 }
 
-// The word has 1 to 32 symbols. A generic test of a length against a bound, for this one and that of
-// labels, would need a crate of its own and be no shorter.
-fn has_word_size<S: Script>(word: &[S]) -> bool
-    ensures { result ≡ word_sized word.now }
-{
-    1 <= word.len() && word.len() <= 32
-}
-
 // The labels of a word, those of one symbol after another. A word of no symbol or of more than 32 is
 // refused.
 pub fn spell_word<S: Script>(word: &[S]) -> Result<ArrayVec<u8, 128>, SpellFault>
@@ -55,7 +47,7 @@ pub fn spell_word<S: Script>(word: &[S]) -> Result<ArrayVec<u8, 128>, SpellFault
     ensures sized { IfOk result (λ v. (1 ≤ length v.items) × (length v.items ≤ 128)) }
     ensures apart { WordsApart S.Script.spelling }
 {
-    if !has_word_size(word) {
+    if !(1..=32).contains(&word.len()) {
         return Err(SpellFault::WordLength);
     }
     let mut labels = ArrayVec::new();
