@@ -40,8 +40,11 @@ mod tests {
 
     // Whether the cells are as in the table, and all others free.
     fn cells_are(array: &DoubleArray, table: &[Entry]) -> bool {
-        let mut cells = array.cells().iter().enumerate();
-        cells.all(|(place, cell)| *cell == expected(table, place))
+        array
+            .cells()
+            .iter()
+            .enumerate()
+            .all(|(place, cell)| *cell == expected(table, place))
     }
 
     #[test]
@@ -63,7 +66,7 @@ mod tests {
         assert_eq!(rt; array.in_use(), 7);
         let mut out = [9; 4];
         assert_eq!(rt; array.path_of(3, &mut out), Ok(3));
-        assert!(rt; out[0] == 99 && out[1] == 100 && out[2] == 1 && out[3] == 9);
+        assert!(rt; out == [99, 100, 1, 9]);
         Ok(())
     }
 
@@ -99,6 +102,21 @@ mod tests {
         assert!(rt; cells_are(&array, &after));
         assert_eq!(rt; array.number_at(&[3, 1]), Some(7));
         assert_eq!(rt; array.number_at(&[3]), None);
+        Ok(())
+    }
+
+    #[test]
+    fn walked_by_a_code_and_by_a_path(rt: HostRuntime) -> Result<(), Fail> {
+        let mut array = made(rt.alloc(), 8, 9)?;
+        assert_eq!(rt; array.enter(&[3, 1], 7), Ok(()));
+        assert_eq!(rt; array.child(1, 3), Some(4));
+        assert_eq!(rt; array.child(4, 1), Some(2));
+        assert_eq!(rt; array.child(1, 1), None);
+        assert_eq!(rt; array.child(8, 1), None);
+        assert_eq!(rt; array.cell_at(&[]), Some(1));
+        assert_eq!(rt; array.cell_at(&[3, 1]), Some(2));
+        assert_eq!(rt; array.cell_at(&[3, 300]), None);
+        assert_eq!(rt; made(rt.alloc(), 1, 1)?.cell_at(&[]), None);
         Ok(())
     }
 
