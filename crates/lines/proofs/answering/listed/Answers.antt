@@ -1,6 +1,5 @@
 use Rattle.std.proofs.Common.{◌≡◌, List, replicate, refl, ap, ◌∙◌}
 use Rattle.record.specs.declared.Tally.{Tally}
-use Rattle.listing.specs.declared.row.LinkRow.{LinkRow}
 use Rattle.history.specs.Kits.{number_in}
 use Rattle.history.specs.Calls.{rows_in}
 use Rattle.stores.specs.Meanings.{trie_tally_kit}
@@ -11,8 +10,7 @@ use Rattle.lines.proofs.answering.listed.Goals as goal
 pub returns : goal.returns
 returns c =
     let step = c.perform_growing-reply.ensures.step tt in
-    let blank : LinkRow = record { relation = 0; y = 0; link = 0 } in
-    let rows = replicate 100 blank in
+    let rows = replicate 100 c.default-rows.result in
     let rows' = c.perform_growing-reply.new.out in
     let same : c.perform_growing-reply.new.records ≡ c.args.records.now = ap (λ (s : Store). s.records) step.3 in (
       (c.perform_growing-reply.result, ((rows, rows', step), c.perform_growing-reply.ensures.law)),
