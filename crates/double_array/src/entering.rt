@@ -111,6 +111,7 @@ impl Nodes {
     {
         let before = self.base(s);
         let leaf = leaf_base(number);
+        // With its index, which says how many cells are new where one has no place.
         let mut tip = s;
         for (i, code) in codes.iter().enumerate() {
             let base = if i + 1 < codes.len() { 0 } else { leaf };

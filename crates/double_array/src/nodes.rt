@@ -7,8 +7,8 @@ use cells::Cell;
 
 // The cells that the nodes stand in, and the index. What holds of them between calls only is told by
 // `DoubleArray`; a step asks for what it needs of it. Each step says that the two vectors stay where they
-// are (`SameBuffers`), since a refused call leaves the very same value, and a model of the lists alone
-// would not say so.
+// are (`SameBuffers`): a model of the lists alone is no plainer where a refused call is to leave the very
+// same value.
 #[derive(Drop)]
 pub struct Nodes {
     pub(super) cells: Vec<Cell>,

@@ -57,6 +57,7 @@ impl Nodes {
         requires used { 0 < parent self.now.cells.items t }
         ensures { result ≡ length (path_to self.now.cells.items t) }
     {
+        // A loop: of the steps that `successors` takes no contract says how many there are.
         let mut s = t;
         for n in 0..self.cells.len() {
             if s == 1 {

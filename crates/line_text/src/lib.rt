@@ -24,7 +24,8 @@ pub use rows::{LineRow, LineRows};
 // The least bytes that an output has.
 const TEXT_BYTES: usize = 4096;
 
-// A text as it is put together.
+// A text as it is put together. That is done by functions that cannot fail and not by `Display`: its
+// contract does not say that it succeeds, and `write_answer` promises a text for every answer.
 type Text = ArrayVec<u8, 4096>;
 
 // What a command answers.

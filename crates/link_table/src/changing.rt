@@ -40,7 +40,7 @@ impl LinkTable {
         if self.count == self.limit() {
             return Err(LinkFault::NumbersHeld);
         }
-        // By `let else`, here and below: through `ok_or` and `?` a proof has to find the case again (tried).
+        // By `let else`, here and in `take`: tried by `ok_or` and `?`, and the proof did not close.
         let Some(place) = vacant(self.array.index(), self.cursor) else {
             return Err(LinkFault::NumbersHeld);
         };

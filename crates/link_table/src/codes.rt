@@ -16,7 +16,8 @@ pub(super) fn write_code(triple: Triple) -> [u16; 5]
     [x_upper, x_lower, triple.relation, y_upper, y_lower].map(|label| label as u16 + 2)
 }
 
-// The triple of a path. Bytes put together by the library would take three casts more.
+// The triple of a path. Tried by `map` and `from_be_bytes`, and the proof of what the closure asks did
+// not close.
 pub(super) fn read_code(path: &[u16; 5]) -> Triple
     requires five { is_triple_path path.now ≡ true }
     requires codes { all_codes path.now ≡ true }

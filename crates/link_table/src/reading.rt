@@ -27,6 +27,7 @@ impl LinkTable {
     {
         // A path is written into an output that is lent: a rule of the project.
         let mut path = [0u16; 5];
+        // By `let else`: tried by `ok` and `?`, and the proof did not close.
         let Ok(_) = self.array.path_of(number, &mut path) else {
             return None;
         };

@@ -17,7 +17,7 @@ use writing::WordLinks;
 pub use writing::list_upper;
 
 // Writes the relation, the second word's number and the link number of every present triple of the
-// word number x with the relation given, 0 for all, into `out` from its start, by relation and then
+// word number x with the relation given, 0 for all (a rule of the formats), into `out` from its start, by relation and then
 // by number, and answers how many there are. Where `out` is too short it answers none, and nothing
 // is written.
 pub fn list_links(table: &LinkTable, x: u16, relation: u8, out: &mut [LinkRow]) -> Option<usize>

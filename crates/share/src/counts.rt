@@ -20,7 +20,7 @@ fn sum_at(records: &[Tally], rows: &[LinkRow]) -> u64
     ensures sum { result ≡ sum_at records.now rows.now }
     ensures most { result ≤ 2 ^ 40 }
 {
-    // A loop: of a chain's `sum` the bound is not proved.
+    // A loop: tried as a chain's `sum`, and the bound did not close.
     let mut sum = 0;
     for row in rows {
         sum += count_at(records, row.link) as u64;

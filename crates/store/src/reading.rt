@@ -36,6 +36,7 @@ impl RelationTable {
         ensures { L.ReadableList.sound list.now → result ≡ find_of (word_kit S.Script L.ReadableList) list.now self.now.links words.entry.x.now words.entry.y.now words.entry.relation }
     {
         let pair = spell_pair(words)?;
+        // By `let else`, here and below: none is the answer then and no refusal, which `?` cannot say.
         let Some(x) = number_in(list, &pair.x) else {
             return Ok(None);
         };

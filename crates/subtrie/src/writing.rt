@@ -1,4 +1,7 @@
 // Writing the numbers below a cell: a walk over cells and a walk over edges.
+//
+// The output and the place in it stay two parameters: of an output that a struct holds, no contract could
+// say what it holds when it is given back (tried).
 ghost use Rattle.std.specs.Prelude.{◌≡◌, ◌+◌, ◌≤◌, length};
 ghost use Rattle.output.specs.Written.{written};
 ghost use Rattle.double_array.specs.Views.{cells_of};

@@ -39,6 +39,13 @@ impl TrieList {
         self.array.cells()
     }
 
+    // The double array, to look at: the paths of the words, each with its number.
+    pub fn array(&self) -> &DoubleArray
+        ensures { result.now ≡ self.now.array }
+    {
+        &self.array
+    }
+
     // The index, to look at: the leaf of each number, and 0 for a number without one.
     pub fn index(&self) -> &[u32]
         ensures { result.now ≡ index_of self.now.array }
@@ -80,10 +87,10 @@ impl TrieList {
     {
         // A path is written into an output that is lent: a rule of the project.
         let mut path = [0u16; 129];
-        match self.array.path_of(number as u32, &mut path) {
-            Ok(size) => labels_of(&path[0..size]),
-            Err(_) => ArrayVec::new(),
-        }
+        let Ok(size) = self.array.path_of(number as u32, &mut path) else {
+            return ArrayVec::new();
+        };
+        labels_of(&path[0..size])
     }
 
     // Enters a word that the list lacks with the next number, and answers that number.

@@ -21,6 +21,7 @@ const CELL_PLACES: usize = 2048;
 
 // Prints a number and its word.
 fn show_word(rt: &HostRuntime, list: &TrieList, number: u32) -> io::Result<()> {
+    // A list writes into an output that it is lent, here and below: a rule of the project.
     let mut labels = [0u8; 128];
     let Ok(short) = u16::try_from(number) else {
         return Ok(());
@@ -65,6 +66,7 @@ fn main(rt: HostRuntime) -> io::Result<()> {
     let mut list = TrieList::new(cells, index);
     let mut input = BufReader::new(rt.alloc(), rt.stdin())?;
     let mut read = Vec::new(rt.alloc());
+    // A count, since a `loop` over input has no end that could be proved.
     for _ in 0..u64::MAX {
         read.clear();
         input.read_until(b'\n', &mut read)?;

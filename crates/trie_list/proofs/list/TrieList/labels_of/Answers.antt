@@ -11,13 +11,13 @@ use Rattle.trie_list.proofs.list.TrieList.labels_of.Goals as goal
 written_path : (size : ℕ) (path out after : List ℕ) → size ≡ length path → after ≡ path ++ drop size out → take (size - 0) after ≡ path
 written_path size path out after long e = ap (take (size - 0)) e ∙ take_at path (drop size out) (size - 0) (let z : length path ≡ size - 0 = omega arith in z)
 
-pub returns-in-Ok : goal.returns-in-Ok
-returns-in-Ok c =
+pub returns : goal.returns
+returns c =
     let s = c.args.self.now in
     let p = path_at (cells_of s.array) (index_of s.array) (c.args.number - 1) in
     let m = c.in-Ok.ensures.path in
     let same = written_path c.in-Ok.size p _ c.path_of.new.out m.1 m.2 in
     c.labels_of.ensures ∙ ap labels_of same ∙ word_labels s c.args.number c.requires
 
-pub returns-in-Err : goal.returns-in-Err
-returns-in-Err c = absurd (no_some c.in-Err.field-0 (sym (path_known c.args.self.now c.args.number c.requires) ∙ c.in-Err.ensures.path.0))
+pub returns-in_default : goal.returns-in_default
+returns-in_default c = absurd (no_some c.in_default.field-0 (sym (path_known c.args.self.now c.args.number c.requires) ∙ c.in_default.ensures.path.0))
