@@ -37,7 +37,12 @@ fn no_number_and_no_cell(rt: HostRuntime) -> Result<(), Fail> {
     let added = without.add(&mut list, &mut none, ab, ONE);
     assert_eq!(rt; added, Err(Refusal::NumbersHeld));
     assert_eq!(rt; list.count(), 2);
+    let tied = without.tie(&list, &mut none, ab, ONE);
+    assert_eq!(rt; tied, Err(Refusal::NumbersHeld));
     assert_eq!(rt; without.figures(), figures(0, 1));
+    let mut neither = table(heap, &list, &none, 0, 4)?;
+    let tied = neither.tie(&list, &mut none, ab, ONE);
+    assert_eq!(rt; tied, Err(Refusal::NumbersHeld));
     let mut records = [ONE; 2];
     let mut bare = table(heap, &list, &records, 0, 2)?;
     let tied = bare.tie(&list, &mut records, ab, ONE);
@@ -48,6 +53,25 @@ fn no_number_and_no_cell(rt: HostRuntime) -> Result<(), Fail> {
     assert_eq!(rt; tied, Err(Refusal::NoPlace));
     assert_eq!(rt; single.find(&list, ab), Ok(None));
     assert_eq!(rt; single.figures(), figures(0, 0));
+    Ok(())
+}
+
+#[test]
+fn a_full_table_tells_what_is_present(rt: HostRuntime) -> Result<(), Fail> {
+    let heap = rt.alloc();
+    let (ab, ba) = (words(b"a", 1, b"b"), words(b"b", 1, b"a"));
+    let mut list = plain(heap, 4)?;
+    let mut records = [ONE; 1];
+    let mut links = table(heap, &list, &records, 100, 1)?;
+    let cases = [
+        (ab, link(1, 2, 1)),
+        (ab, Err(Refusal::TriplePresent)),
+        (ba, Err(Refusal::NumbersHeld)),
+    ];
+    for (words, answer) in cases {
+        let added = links.add(&mut list, &mut records, words, ONE);
+        assert_eq!(&rt; added, answer);
+    }
     Ok(())
 }
 
@@ -117,6 +141,11 @@ fn records_and_index_of_other_lengths(rt: HostRuntime) -> Result<(), Fail> {
     Ok(())
 }
 
+// Where the children of the root stand.
+fn root_base(links: &RelationTable) -> Option<i32> {
+    links.links().cells().get(1).map(|cell| cell.base)
+}
+
 #[test]
 fn numbers_above_255(rt: HostRuntime) -> Result<(), Fail> {
     let heap = rt.alloc();
@@ -134,12 +163,13 @@ fn numbers_above_255(rt: HostRuntime) -> Result<(), Fail> {
     let mut records = [ONE; 4];
     let mut links = table(heap, &list, &records, 900, 4)?;
     let cases = [
-        (low, link(1, 2, 1)),
-        (high, link(300, 299, 2)),
-        (back, link(300, 1, 3)),
+        (low, link(1, 2, 1), Some(1)),
+        (high, link(300, 299, 2), Some(6)),
+        (back, link(300, 1, 3), Some(6)),
     ];
-    for (words, answer) in cases {
+    for (words, answer, base) in cases {
         assert_eq!(&rt; links.tie(&list, &mut records, words, ONE), answer);
+        assert_eq!(&rt; root_base(&links), base);
     }
     assert_eq!(rt; links.find(&list, low), link(1, 2, 1).map(Some));
     assert_eq!(rt; links.delete(&list, high), Ok(2));

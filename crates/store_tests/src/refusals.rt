@@ -147,7 +147,8 @@ fn finds<L: GrowingList>(rt: &impl Abort, table: &RelationTable, list: &L) {
 
 // Deletes in the same store.
 fn deletes<L: GrowingList>(rt: &impl Abort, table: &mut RelationTable, list: &L) {
-    let cases: [(&[u8], &[u8], u8, Result<u32, Refusal>); 7] = [
+    let cases: [(&[u8], &[u8], u8, Result<u32, Refusal>); 8] = [
+        (b"", b"", 0, Err(Refusal::WordLength(Side::First))),
         (b"x", b"", 0, Err(Refusal::WordLength(Side::Second))),
         (b"x", b"y", 0, Err(Refusal::RelationZero)),
         (b"x", b"y", 4, Err(Refusal::UnknownWord(Side::First))),

@@ -6,7 +6,8 @@
 // either list and with either record type.
 #![tactic(auto)]
 
-ghost use Rattle.std.specs.Prelude.{[]};
+ghost use Rattle.std.specs.Prelude.{[], length, vec_len};
+ghost use Rattle.link_table.specs.Tables.{Made};
 ghost use Rattle.history.specs.Kits.{kit_of, state_of};
 ghost use Rattle.history.specs.Runs.{Reached};
 ghost use Rattle.history.specs.Laws.{Law};
@@ -26,6 +27,7 @@ pub fn new_store<S: Script, L: SoundList, R: Record>(
     cells: Vec<Cell>,
     index: Vec<u32>,
 ) -> RelationTable
+    ensures made { Made (vec_len cells) (vec_len index) (length records.now) result.links }
     ensures start { Reached (kit_of S.Script L.ReadableList R.Record) [] (state_of list.now result.links records.now) }
     ensures law { Law (kit_of S.Script L.ReadableList R.Record) [] (state_of list.now result.links records.now) }
     ensures byte_text { ByteTextBegins }

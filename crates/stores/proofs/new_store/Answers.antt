@@ -7,6 +7,7 @@ pub returns : goal.returns
 returns g c =
     let sound = g.met.L.SoundList.always c.args.list.now in
     record {
+      made = c.new.ensures.made;
       start = c.new.ensures.start sound;
       law = c.new.ensures.law sound;
       byte_text = record {
