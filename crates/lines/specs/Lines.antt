@@ -16,6 +16,7 @@ use Rattle.history.specs.Calls as call
 use Rattle.history.specs.Laws.{Onward}
 use Rattle.store.specs.Links.{link_answer}
 use Rattle.stores.specs.Meanings.{trie_tally_kit}
+use Rattle.share.specs.Laws.{ShareLaw}
 use Rattle.share.specs.Shares.{count_at, share_answer}
 use Rattle.command.specs.Commands.{Asked, add, tie, delete, find, share, list}
 use Rattle.line_text.specs.declared.rows.LineRow.{LineRow}
@@ -90,6 +91,13 @@ Made s c n t =
 abbrev pub Done : Store → Call ℕ Tally → List ℕ → Store → Type 0
 Done s c text t = (n : Result (Reply Tally) Refusal) × Made s c n t × (text ≡ done_line n)
 
+-- a share was answered in s by its rule, it is the share in the counts of the triples that are present after every history that led to
+-- s, and `text` is printed
+abbrev pub Shared : Store → List ℕ → List ℕ → ℕ → List ℕ → Type 0
+Shared s x y q text =
+    (n : Result ℕ Refusal) × (n ≡ share_answer s.table s.records q (link_answer trie_tally_kit s.list s.table x y q))
+    × ShareLaw trie_tally_kit s x y q n × (text ≡ share_line n)
+
 -- the line that asks for this was carried out in s, left t, and `text` is printed
 abbrev pub Carried : Store → Option Asked → List ℕ → Store → Type 0
 Carried s None text t = (text ≡ refused_text MalformedLine) × (t ≡ s)
@@ -102,4 +110,4 @@ Carried s (Some (list x q)) text t =
     ((n : Result (Reply Tally) Refusal) × Made s (call.list x q) n t)
     × (text ≡ listing_line (refusal_of_list trie_tally_kit s.list s.table x q 100) (map (row_of s.records) (rows_in trie_tally_kit s.list s.table x q)))
     × (t ≡ s)
-Carried s (Some (share x y q)) text t = (text ≡ share_line (share_answer s.table s.records q (link_answer trie_tally_kit s.list s.table x y q))) × (t ≡ s)
+Carried s (Some (share x y q)) text t = Shared s x y q text × (t ≡ s)

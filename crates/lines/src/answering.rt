@@ -113,7 +113,7 @@ fn shared(
 ) -> Result<LineAnswer, Refusal>
     ensures { Carried (state_of list.now table.now.links records.now) (Some (share_asked words.entry.x.now words.entry.y.now words.entry.relation)) (answer_text result) (state_of list.now table.now.links records.now) }
 {
-    Ok(LineAnswer::Share(share(table, list, records, words)?))
+    share(table, list, records, words).map(LineAnswer::Share)
 }
 
 // Carries out a command and says what is to be printed.
