@@ -1,5 +1,5 @@
 -- Walking and climbing follow the paths of the tree.
-use Rattle.std.proofs.Common.{◌≡◌, ℕ, zero, suc, ◌-◌, ◌<◌, ◌≤◌, true, eqb, List, [], ◌∷◌, ◌++◌, length, ℤ, pos, negsuc, Some, None, sym, refl, ap, ◌∙◌, subst, append-nil, arith}
+use Rattle.std.proofs.Common.{◌≡◌, ℕ, zero, suc, ◌-◌, ◌<◌, ◌≤◌, true, eqb, List, [], ◌∷◌, ◌++◌, length, get_or, ℤ, pos, negsuc, Some, None, sym, refl, ap, ◌∙◌, subst, append-nil, arith}
 use Rattle.std.proofs.lemmas.Bool.{cond-true, cond-false, cond_both, and_parts, and_from, lt-ltb, ltb-true, eq-eqb, ne_eqb}
 use Rattle.cells.specs.declared.Cell.{Cell}
 use Rattle.cells.specs.Cells.{at, base_of, parent, number, is_code, all_codes}
@@ -32,6 +32,12 @@ codes_from (a ∷ p) e =
 
 pub code_is : (a : ℕ) → 0 < a → a < 258 → is_code a ≡ true
 code_is a lo hi = and_from _ _ (lt-ltb 0 a lo) (lt-ltb a 258 hi)
+
+-- each code of a path is below 258
+pub code_high : (p : List ℕ) (k : ℕ) → all_codes p ≡ true → k < length p → get_or p k 0 < 258
+code_high [] k e h = absurd (omega arith)
+code_high (a ∷ p) zero e h = (codes_from (a ∷ p) e).0.1
+code_high (a ∷ p) (suc k) e h = code_high p k (and_parts _ _ e).1 (omega arith)
 
 pub reach_codes : (cs : List Cell) (p q : List ℕ) (t : ℕ) → Reach cs (turned p q) t → all_codes p ≡ true
 reach_codes cs [] q t r = refl

@@ -10,6 +10,7 @@ pub mod Fields
 pub mod Follows
 pub mod Growing
 pub mod Refusals
+pub mod Blocks
 pub mod Changes
 pub mod Spells
 pub mod Sames

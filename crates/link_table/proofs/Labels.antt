@@ -5,7 +5,7 @@ use Rattle.cells.specs.declared.Cell.{Cell}
 use Rattle.cells.specs.Cells.{at, number, is_code, all_codes}
 use Rattle.cells.specs.Walking.{onward, walk, number_at}
 use Rattle.cells.proofs.Basics.{no_some}
-use Rattle.cells.proofs.Climbs.{code_is}
+use Rattle.cells.proofs.Climbs.{code_is, code_high}
 use Rattle.link_table.specs.Codes.{path_of_triple, triple_of, all_labels, is_triple_path}
 use Rattle.link_table.specs.declared.triple.Triple.{Triple}
 
@@ -13,11 +13,6 @@ label_low : (p : List ℕ) (k : ℕ) → all_labels p ≡ true → k < length p 
 label_low [] k e h = absurd (omega arith)
 label_low (a ∷ p) zero e h = leb-true 2 a (and_parts (leb 2 a) (all_labels p) e).0
 label_low (a ∷ p) (suc k) e h = label_low p k (and_parts (leb 2 a) (all_labels p) e).1 (omega arith)
-
-code_high : (p : List ℕ) (k : ℕ) → all_codes p ≡ true → k < length p → get_or p k 0 < 258
-code_high [] k e h = absurd (omega arith)
-code_high (a ∷ p) zero e h = ltb-true a 258 (and_parts (ltb 0 a) (ltb a 258) (and_parts (is_code a) (all_codes p) e).0).1
-code_high (a ∷ p) (suc k) e h = code_high p k (and_parts (is_code a) (all_codes p) e).1 (omega arith)
 
 pub five_long : (p : List ℕ) → is_triple_path p ≡ true → length p ≡ 5
 five_long p e = eqb-true (length p) 5 (and_parts (eqb (length p) 5) (all_labels p) e).0

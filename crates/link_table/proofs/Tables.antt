@@ -1,5 +1,5 @@
 -- What the fields of a link table say of it.
-use Rattle.std.proofs.Common.{◌≡◌, ℕ, ◌+◌, ◌-◌, ◌<◌, ◌≤◌, Bool, true, false, cond, ◌&&◌, eqb, ltb, List, ◌++◌, length, get_or, drop, is_some, Some, None, Option, unwrap_or, sym, refl, ap, ◌∙◌, subst, ⊎_elim, append-nil, arith}
+use Rattle.std.proofs.Common.{◌≡◌, ℕ, ◌+◌, ◌-◌, ◌<◌, ◌≤◌, Bool, true, false, cond, ◌&&◌, eqb, ltb, List, ◌∷◌, ◌++◌, length, get_or, drop, is_some, Some, None, Option, unwrap_or, sym, refl, ap, ◌∙◌, subst, ⊎_elim, append-nil, arith, length-append}
 use mathlib.Core.HLevel.{is_prop→PathP}
 use native.Mathlib.Bridge.{le_prop}
 use native.Mathlib.Nat.{ℕ_set}
@@ -17,6 +17,7 @@ use Rattle.cells.specs.Placing.{Arrays, enter}
 use Rattle.cells.specs.Pruning.{take_out}
 use Rattle.cells.specs.Walking.{number_at}
 use Rattle.cells.proofs.Basics.{no_some, some_same}
+use Rattle.cells.proofs.Climbs.{held_number}
 use Rattle.cells.proofs.Numbers.{decides_same}
 use Rattle.cells.proofs.Pigeons.{in_counting, apart_counting, in_kept, from_kept, apart_kept}
 use Rattle.double_array.specs.Entries.{is_open, no_place, refusal, Added}
@@ -24,6 +25,7 @@ use Rattle.double_array.specs.Outcomes.{Removed}
 use Rattle.double_array.specs.Spellings.{is_known, path_of, unwritten}
 use Rattle.double_array.specs.Views.{cells_of, index_of}
 use Rattle.double_array.specs.declared.array.DoubleArray.{DoubleArray}
+use Rattle.double_array.proofs.Blocks.{Kind, unblocked}
 use Rattle.double_array.proofs.Fields.{sound_from}
 use Rattle.double_array.proofs.Refusals.{judged_by}
 use Rattle.double_array.proofs.Spells.{named_of}
@@ -35,7 +37,6 @@ use Rattle.link_table.specs.declared.table.LinkTable.{LinkTable}
 use Rattle.link_table.proofs.Labels.{five_long, path_back, triple_back, triple_five, number_codes}
 use Rattle.link_table.proofs.Counts.{kept_none, kept_few}
 use Rattle.link_table.proofs.Places.{enter_any}
-use Rattle.link_table.proofs.Blocks.{unblocked}
 use Rattle.link_table.proofs.Holds.{number_low, number_high, new_number, known_before, held_more, held_all}
 
 -- the ghost fields in their order
@@ -205,6 +206,18 @@ put_full s triple none all =
 pub count_few : (s : LinkTable) → s.count ≤ 1048575
 count_few s = omega (arith, s.few, s.counted, kept_few (is_known (index_of s.array)) 1 (length (index_of s.array)))
 
+-- a path of five codes
+abbrev Five : List ℕ → Type 0
+Five p = length p ≡ 5
+
+-- all held paths are such, and none goes on after another
+fives : (s : LinkTable) → Kind (cells_of s.array) Five
+fives s = record {
+  some = λ none. omega arith;
+  alone = λ p a q five more. omega (arith, length-append p (a ∷ q));
+  held = λ p n held. five_long p (s.triples p (ap is_some (held_number (cells_of s.array) p n held)));
+}
+
 -- a triple is put: it is not present, and the place of its number is vacant
 module _ (s : LinkTable) (triple : Triple) (place : ℕ) (codes : all_codes (path_of_triple triple) ≡ true) (none : found s triple ≡ None)
     (low : place < limit s) (vacant : get_or (index_of s.array) place 0 ≡ 0) where
@@ -222,7 +235,7 @@ module _ (s : LinkTable) (triple : Triple) (place : ℕ) (codes : all_codes (pat
   judged =
       judged_by (cells_of s.array) (index_of s.array) (path_of_triple triple) (place + 1)
       (and_from (ltb 0 (length (path_of_triple triple)) && ltb (length (path_of_triple triple)) 130) (all_codes (path_of_triple triple)) refl codes) open_number
-      (unblocked (cells_of s.array) (index_of s.array) (sound_from s.array) s.triples (path_of_triple triple) codes (five_long (path_of_triple triple) (triple_five triple)) none)
+      (unblocked (cells_of s.array) (index_of s.array) (sound_from s.array) Five (fives s) (path_of_triple triple) codes (five_long (path_of_triple triple) (triple_five triple)) none)
       (enter (cells_of s.array) (index_of s.array) (path_of_triple triple) (place + 1 - 1)) refl
 
   -- the refusal by whether there is a place

@@ -1,9 +1,10 @@
 -- The link that the share is of, its count as a part of the total, and the answer.
-use Rattle.std.proofs.Common.{◌≡◌, ℕ, ◌≤◌, true, List, is_some, Some, None, Ok, Option, unwrap_or, sym, refl, ap, ◌∙◌, subst, arith}
+use Rattle.std.proofs.Common.{◌≡◌, ℕ, ◌≤◌, true, eqb, List, is_some, Some, None, Ok, Option, unwrap_or, sym, refl, ap, ◌∙◌, subst, arith}
 use Rattle.std.proofs.lemmas.Bool.{not-false}
 use Rattle.refusal.specs.declared.Refusal.{Refusal}
 use Rattle.record.specs.declared.Tally.{Tally}
 use Rattle.cells.proofs.Basics.{some_is}
+use Rattle.cells.proofs.Pigeons.{part_of_sum}
 use Rattle.link_table.specs.Tables.{found}
 use Rattle.link_table.specs.declared.table.LinkTable.{LinkTable}
 use Rattle.listing.specs.Rows.{rows_by}
@@ -15,8 +16,9 @@ use Rattle.history.specs.Calls.{answered, link_in, held_in, refusal_of_delete}
 use Rattle.history.proofs.Options.{none_applies}
 use Rattle.store.specs.Links.{link_answer}
 use Rattle.share.specs.Rounding.{share_of}
-use Rattle.share.specs.Shares.{count_at, total_of, share_answer}
-use Rattle.share.proofs.Sums.{part_of_sum}
+use Rattle.share.specs.Shares.{count_at, present_in, share_answer}
+use Rattle.share.specs.Totals.{total_of}
+use Rattle.share.proofs.Present.{rows_total}
 
 -- what was answered was not refused
 accepted : {A : Type 0} (o : Option Refusal) (v w : A) → Ok w ≡ answered o v → (o ≡ None) × (w ≡ v)
@@ -36,13 +38,13 @@ link_held K l t x y q link e =
     subst (λ (w : Link). found t (record { x = w.x; relation = q; y = w.y }) ≡ Some w.number) (sym k.1) (value_is there (not-false (is_some there) none.1.1.1.1.1.0))
 
 -- the count of a present triple is a part of the total of its word and relation
-pub part_of_total : (t : LinkTable) (records : List Tally) (x k y u : ℕ) → found t (record { x = x; relation = k; y = y }) ≡ Some u → count_at records u ≤ total_of t records x k
+pub part_of_total : (t : LinkTable) (records : List Tally) (x k y u : ℕ) → found t (record { x = x; relation = k; y = y }) ≡ Some u → count_at records u ≤ total_of eqb (present_in t records) x k
 part_of_total t records x k y u e =
-    part_of_sum (λ r. count_at records r.link) (rows_by t x k) (record { relation = k; y = y; link = u }) (below_in t x k y u 65536 (bounds t x k y u e).1 e)
+    subst (λ (n : ℕ). count_at records u ≤ n) (rows_total t records x k) (part_of_sum (λ r. count_at records r.link) (rows_by t x k) (record { relation = k; y = y; link = u }) (below_in t x k y u 65536 (bounds t x k y u e).1 e))
 
 -- the share of the link's count in the total of its first word is what is answered
 pub share_is : {S L R : Type 0} (K : Kit S L R) (l : L) (t : LinkTable) (records : List Tally) (x y : List S) (q : ℕ) (link : Link) → Ok link ≡ link_answer K l t x y q → (share count total : ℕ)
-    → count ≡ count_at records link.number → total ≡ total_of t records link.x q → (count ≤ total → share ≡ share_of count total) → Ok share ≡ share_answer t records q (link_answer K l t x y q)
+    → count ≡ count_at records link.number → total ≡ total_of eqb (present_in t records) link.x q → (count ≤ total → share ≡ share_of count total) → Ok share ≡ share_answer t records q (link_answer K l t x y q)
 share_is K l t records x y q link e share count total ec et es =
     let part = part_of_total t records link.x q link.y link.number (link_held K l t x y q link e) in
     let fits : count ≤ total = omega (arith, part, ec, et) in

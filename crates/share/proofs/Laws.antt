@@ -1,12 +1,12 @@
 -- The share is that of the present triples.
-use Rattle.std.proofs.Common.{◌≡◌, ℕ, zero, suc, Bool, true, false, not, ◌&&◌, eqb, List, Some, None, Ok, Option, Result, unwrap_or, sym, refl, ap, ◌∙◌, subst, le_of_eq, le_antisymm}
+use Rattle.std.proofs.Common.{◌≡◌, ℕ, zero, suc, Bool, true, false, not, ◌&&◌, eqb, List, map, Some, None, Ok, sum_by, Option, Result, unwrap_or, sym, refl, ap, ◌∙◌, subst, le_of_eq, le_antisymm}
 use Rattle.std.proofs.lemmas.Slice.Eq.{bytes_eq-Decides}
 use Rattle.std.proofs.lemmas.Bool.{and_parts, eqb-true, eqb-false}
 use Rattle.refusal.specs.declared.Refusal.{Refusal}
 use Rattle.script.specs.Words.{word_sized, WordsApart}
 use Rattle.record.specs.declared.Tally.{Tally}
 use Rattle.cells.specs.Trees.{In, Apart}
-use Rattle.cells.proofs.Pigeons.{from_kept, apart_kept}
+use Rattle.cells.proofs.Pigeons.{from_kept, apart_kept, sums_under}
 use Rattle.link_table.specs.Tables.{found}
 use Rattle.link_table.specs.declared.table.LinkTable.{LinkTable}
 use Rattle.listing.specs.Rows.{rows_of}
@@ -19,7 +19,7 @@ use Rattle.history.specs.Refusals.{first, none, word_refusals, delete_refusals}
 use Rattle.history.specs.Calls.{answered, link_in, held_in, refusal_of_delete}
 use Rattle.history.specs.Runs.{Entry, same_word, same_triple}
 use Rattle.history.specs.Laws.{Unless, asks, entries_of}
-use Rattle.history.proofs.Members.{apart_from}
+use Rattle.history.proofs.Members.{apart_from, kept_map}
 use Rattle.history.proofs.Options.{none_applies, applies_none}
 use Rattle.history.proofs.Held.{link_of, Fits, triple_from, same_link}
 use Rattle.history.proofs.Steps.{held_of}
@@ -27,9 +27,11 @@ use Rattle.history.proofs.Listings.{rising_apart, row_same, listing_of}
 use Rattle.history.proofs.Runs.{held_is, sound_of}
 use Rattle.store.specs.Links.{link_answer}
 use Rattle.share.specs.Rounding.{share_of}
-use Rattle.share.specs.Shares.{count_of, count_at, sum_at, total_of, share_answer}
-use Rattle.share.specs.Laws.{total_in, ShareLaw}
-use Rattle.share.proofs.Sums.{sums_under}
+use Rattle.share.specs.Shares.{count_of, count_at, sum_at, present_in, share_answer}
+use Rattle.share.specs.Totals.{Counted, total_of}
+use Rattle.share.specs.Laws.{counted, ShareLaw}
+use Rattle.share.proofs.Present.{rows_total}
+use Rattle.share.proofs.Sums.{sum_map}
 
 module _ {S L : Type 0} (K : Kit S L Tally) {es : List (Entry S Tally)} {us : List ℕ} {l : L} {t : LinkTable} {records : List Tally} (F : Fits K es us l t records) where
   -- the count at an entry's number is its own
@@ -58,7 +60,7 @@ module _ {S L : Type 0} (K : Kit S L Tally) {es : List (Entry S Tally)} {us : Li
     Shown e r = In es e × (e.link ≡ r.link) × (e.kept.count ≡ count_at records r.link)
 
     -- the counts at the rows are those of the entries
-    pub same_sums : sum_at records rows ≡ total_in K es x q
+    same_sums : sum_at records rows ≡ sum_by (λ e. e.kept.count) (entries_of K es x q)
     same_sums =
         let shown = listing_of K F x q a number in
         le_antisymm
@@ -74,10 +76,14 @@ module _ {S L : Type 0} (K : Kit S L Tally) {es : List (Entry S Tally)} {us : Li
         let there = (from_kept test es e i).1 in
         (k.0, k.1, (there, sym k.4, sym (ap (count_at records) k.4 ∙ count_is e there)))))
 
-  -- the total of a known word and a relation is that of its entries
-  pub same_total : (x : List S) (q a : ℕ) → eqb q 0 ≡ false → number_in K l x ≡ Some a → total_of t records (unwrap_or (number_in K l x) 0) q ≡ total_in K es x q
+  -- the total of a known word and a relation, over the present triples of the table, is that over the entries
+  pub same_total : (x : List S) (q a : ℕ) → eqb q 0 ≡ false → number_in K l x ≡ Some a → total_of eqb (present_in t records) (unwrap_or (number_in K l x) 0) q ≡ total_of (same_word K) (map counted es) x q
   same_total x zero a some number = absurd (eqb-false 0 0 some refl)
-  same_total x (suc q) a some number = same_sums x (suc q) a number
+  same_total x (suc q) a some number =
+      let has : Counted (List S) → Bool = λ c. same_word K c.x x && eqb c.relation (suc q) in
+      sym (rows_total t records (unwrap_or (number_in K l x) 0) (suc q))
+      ∙ same_sums x (suc q) a number
+      ∙ sym (ap (sum_by (λ (c : Counted (List S)). c.count)) (kept_map counted has (λ e. has (counted e)) es (λ e i. refl)) ∙ sum_map counted (λ (c : Counted (List S)). c.count) (entries_of K es x (suc q)))
 
 -- an answer that is given unless a refusal applies, as a share
 unless_share : (t : LinkTable) (records : List Tally) (k : ℕ) (o : Option Refusal) (v : Link) → Unless o (share_answer t records k (answered o v))
@@ -122,7 +128,7 @@ module _ {S L : Type 0} (K : Kit S L Tally) (apart : WordsApart K.spelling) (l :
         let k = link_is F e i same in
         answer (sound_of K run)
         ∙ ap (share_answer t records q) k.0
-        ∙ ap (λ (c : ℕ). Ok (share_of c (total_of t records (unwrap_or (number_in K l x) 0) q))) (count_is K F e i)
+        ∙ ap (λ (c : ℕ). Ok (share_of c (total_of eqb (present_in t records) (unwrap_or (number_in K l x) 0) q))) (count_is K F e i)
         ∙ ap (λ (n : ℕ). Ok (share_of e.kept.count n)) (same_total K F x q k.2.0 k.1 k.2.1);
     refused = λ h run.
         subst (λ (b : Bool). Unless (first (delete_refusals x y q (number_in K l x) (number_in K l y) b)) r) (held_is K (held_of K run).fits x y q)

@@ -1,5 +1,5 @@
 -- The share in terms of the triples that are present after a history.
-use Rattle.std.specs.Prelude.{◌≡◌, ℕ, true, List, Ok, sum_by, Result}
+use Rattle.std.specs.Prelude.{◌≡◌, ℕ, true, List, map, Ok, Result}
 use Rattle.refusal.specs.declared.Refusal.{Refusal}
 use Rattle.script.specs.declared.Script.{Ghosts as Scripts}
 use Rattle.lexicon.specs.declared.ReadableList.{Ghosts as Lists}
@@ -8,22 +8,23 @@ use Rattle.record.specs.declared.Tally.{Tally}
 use Rattle.cells.specs.Trees.{In}
 use Rattle.history.specs.Kits.{Kit, kit_of, State, number_in}
 use Rattle.history.specs.Refusals.{first, delete_refusals}
-use Rattle.history.specs.Runs.{History, Entry, same_triple, present, Reached}
-use Rattle.history.specs.Laws.{Unless, has_triple, entries_of}
+use Rattle.history.specs.Runs.{History, Entry, same_word, same_triple, present, Reached}
+use Rattle.history.specs.Laws.{Unless, has_triple}
 use Rattle.share.specs.Rounding.{share_of}
+use Rattle.share.specs.Totals.{Counted, total_of}
 
 -- the meaning that a script and a list give to a store of tallies
 abbrev pub tally_kit : {S A L : Type 0} → Scripts S A → Lists L → Kit S L Tally
 tally_kit s l = kit_of s l (record { sound = sound_tally })
 
-module _ {S L : Type 0} (K : Kit S L Tally) where
-  -- the sum of the counts of all entries with the first word x and the relation q
-  abbrev pub total_in : List (Entry S Tally) → List S → ℕ → ℕ
-  total_in es x q = sum_by (λ e. e.kept.count) (entries_of K es x q)
+-- a present triple of a history, in words, with the count last written for it
+abbrev pub counted : {S : Type 0} → Entry S Tally → Counted (List S)
+counted e = record { x = e.x; relation = e.relation; count = e.kept.count }
 
+module _ {S L : Type 0} (K : Kit S L Tally) where
   -- what the share of (x, y, q) answers in a state s, of every history that led to it
   pub record ShareLaw (s : State L Tally) (x y : List S) (q : ℕ) (r : Result ℕ Refusal) : Type 0 where
     -- of a present triple it is the share of its count in the counts of all present triples of the same word and relation
-    pub shared : (h : History S Tally) → Reached K h s → (e : Entry S Tally) → In (present K h) e → same_triple K x y q e ≡ true → r ≡ Ok (share_of e.kept.count (total_in (present K h) x q))
+    pub shared : (h : History S Tally) → Reached K h s → (e : Entry S Tally) → In (present K h) e → same_triple K x y q e ≡ true → r ≡ Ok (share_of e.kept.count (total_of (same_word K) (map counted (present K h)) x q))
     -- it is refused by the first refusal that applies, judged by the roll and the present triples, and by no other
     pub refused : (h : History S Tally) → Reached K h s → Unless (first (delete_refusals x y q (number_in K s.list x) (number_in K s.list y) (has_triple K (present K h) x y q))) r

@@ -1,3 +1,4 @@
 pub mod Rounding
+pub mod Totals
 pub mod Shares
 pub mod Laws

@@ -1,6 +1,7 @@
 // The counts at link numbers, and their sum over the rows of a word.
-ghost use Rattle.std.specs.Prelude.{◌≡◌, ◌^◌, ◌≤◌, length};
-ghost use Rattle.share.specs.Shares.{count_at, sum_at, total_of};
+ghost use Rattle.std.specs.Prelude.{◌≡◌, ◌^◌, ◌≤◌, length, ◌==◌};
+ghost use Rattle.share.specs.Shares.{count_at, sum_at, present_in};
+ghost use Rattle.share.specs.Totals.{total_of};
 
 use link_table::LinkTable;
 use listing::{LinkRow, list_upper};
@@ -31,7 +32,7 @@ fn sum_at(records: &[Tally], rows: &[LinkRow]) -> u64
 // The sum of the counts of all triples with the first word x and the relation, one upper byte of the
 // second word's number after the other.
 pub(super) fn total(table: &LinkTable, records: &[Tally], x: u16, relation: u8) -> u64
-    ensures sum { result ≡ total_of table.now records.now x relation }
+    ensures sum { result ≡ total_of ◌==◌ (present_in table.now records.now) x relation }
     ensures most { result ≤ 2 ^ 48 }
 {
     // A block of rows is written into an output that is lent: a rule of the project.

@@ -5,4 +5,3 @@ pub mod Below
 pub mod Lists
 pub mod PathsLemmas
 pub mod RollsLemmas
-pub mod Blocks

@@ -1,10 +1,10 @@
 -- What the fields of a trie list say of its roll.
 use Rattle.std.specs.Prelude.{◌≡◌, ℕ, zero, suc, ◌+◌, ◌-◌, ◌<◌, ◌≤◌, min, true, false, cond, ◌&&◌, List, [], length, get_or, is_some, Some, None, Ok, Err, Option, Result, ◌==◌, nat_le, nat_lt, slice_index, slice_index_or, refl}
-use Rattle.std.proofs.Common.{sym, ap, subst, ◌∙◌, ⊎_elim, arith}
+use Rattle.std.proofs.Common.{sym, ap, subst, ◌∙◌, arith}
 use mathlib.Core.HLevel.{is_prop→PathP}
 use Rattle.std.proofs.Math.Bridge.{le_prop}
 use denote.Struct.Props.{props}
-use Rattle.std.proofs.lemmas.Bool.{and_from, and_right, le-leb, lt-ltb, le-ltb, eq-eqb, cond-true, cond-false, cases_lt}
+use Rattle.std.proofs.lemmas.Bool.{and_from, and_parts, and_right, both_ways, le-leb, lt-ltb, le-ltb, eq-eqb, cond-true, cond-false}
 use Rattle.refusal.specs.declared.ListFault.{ListFault}
 use Rattle.refusal.specs.declared.ListFault.TheVariants.{NoRoom}
 use Rattle.refusal.specs.declared.PathFault.{PathFault}
@@ -19,19 +19,19 @@ use Rattle.cells.specs.Cells.{all_codes}
 use Rattle.cells.specs.Placing.{Arrays, enter}
 use Rattle.cells.specs.Walking.{number_at}
 use Rattle.cells.proofs.Basics.{no_some, some_same}
-use Rattle.cells.proofs.Climbs.{number_held, number_positive, reach_codes}
+use Rattle.cells.proofs.Climbs.{number_held, held_number, number_positive, reach_codes}
 use Rattle.double_array.specs.Entries.{is_path, is_open, is_new, no_place, refusal}
 use Rattle.double_array.specs.Spellings.{is_known, unwritten}
 use Rattle.double_array.specs.Views.{cells_of, index_of}
 use Rattle.double_array.proofs.Fields.{sound_from}
-use Rattle.double_array.proofs.Refusals.{judged_by, short_new}
-use Rattle.trie_list.specs.Paths.{path_of, labels_of, word_path}
+use Rattle.double_array.proofs.Blocks.{Kind, unblocked}
+use Rattle.double_array.proofs.Refusals.{judged_by}
+use Rattle.trie_list.specs.Paths.{path_of, labels_of, ends_once, word_path}
 use Rattle.trie_list.specs.Rolls.{path_at, Numbered, Unnumbered, Counted, Worded}
 use Rattle.trie_list.specs.Trie.{roll_of, room_of, Walked, Placed, Appends}
 use Rattle.trie_list.specs.declared.list.TrieList.{TrieList}
-use Rattle.trie_list.specs.PathsLemmas.{length_path, word_path_size, path_codes, ends_path}
+use Rattle.trie_list.specs.PathsLemmas.{length_path, word_path_size, path_codes, ends_path, ends_alone}
 use Rattle.trie_list.specs.RollsLemmas.{Listed, path_number, number_path, path_word, length_words, get_d_words, words_lawful, number_is}
-use Rattle.trie_list.specs.Blocks.{unblocked}
 
 pub listed : (s : TrieList) → Listed (cells_of s.array) (index_of s.array) s.count
 listed s = record {
@@ -109,6 +109,22 @@ module _ (s : TrieList) (u : ℕ) (some : numbered (roll_of s) u ≡ true) where
   pub word_labels : labels_of (path_at (cells_of s.array) (index_of s.array) (u - 1)) ≡ word_of (roll_of s) u
   word_labels = sym (get_d_words (cells_of s.array) (index_of s.array) s.count (listed s) (u - 1) low)
 
+-- a path that ends with the end sign and nowhere else has it
+abbrev Ends : List ℕ → Type 0
+Ends p = ends_once p ≡ true
+
+-- all held paths are such, and none goes on after another
+ending : (s : TrieList) → Kind (cells_of s.array) Ends
+ending s = record {
+  some = both_ways false refl;
+  alone = ends_alone;
+  held = λ p n held.
+      let cs = cells_of s.array in
+      let is = index_of s.array in
+      let found = number_path cs is s.count (listed s) p n (held_number cs p n held) in
+      ap ends_once (sym found.1) ∙ (and_parts (ends_once (path_at cs is n)) (label_sized (labels_of (path_at cs is n))) ((listed s).worded n found.0)).0;
+}
+
 -- a new word's path with the next number is refused only for want of a place
 module _ (s : TrieList) (w : List ℕ) (sized : label_sized w ≡ true) (absent : number_of (roll_of s) w ≡ None) (bytes : (k : ℕ) → slice_index w k < 256)
     (left : s.count < min (length (index_of s.array)) 65535) where
@@ -133,11 +149,7 @@ module _ (s : TrieList) (w : List ℕ) (sized : label_sized w ≡ true) (absent 
       (eq-eqb (slice_index (index_of s.array) (s.count + 1 - 1)) 0 none)
 
   new_path : is_new (cells_of s.array) (path_of w) ≡ true
-  new_path =
-      ⊎_elim
-      (λ long. unblocked (cells_of s.array) (index_of s.array) s.count (listed s) long (path_of w) (path_codes w bytes) (ends_path w) none_held)
-      (λ few. short_new (cells_of s.array) (index_of s.array) (omega arith) (path_of w) (omega (arith, length_path w)))
-      (cases_lt 1 (length (cells_of s.array)))
+  new_path = unblocked (cells_of s.array) (index_of s.array) (listed s).sound Ends (ending s) (path_of w) (path_codes w bytes) (ends_path w) none_held
 
   pub judged : refusal (cells_of s.array) (index_of s.array) (path_of w) (s.count + 1) ≡ no_place (enter (cells_of s.array) (index_of s.array) (path_of w) s.count)
   judged =

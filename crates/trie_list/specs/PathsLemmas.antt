@@ -77,12 +77,6 @@ word_path_size p e =
     let sizes = label_bounds (labels_of p) parts.1 in
     (omega (arith, length_labels p parts.0, sizes.0), omega (arith, length_labels p parts.0, sizes.1))
 
--- each code of a path is below 258
-pub code_high : (p : List ℕ) (k : ℕ) → all_codes p ≡ true → k < length p → slice_index p k < 258
-code_high [] k e h = absurd (omega arith)
-code_high (a ∷ p) zero e h = ltb-true a 258 (and_parts (nat_lt 0 a) (nat_lt a 258) (and_parts (is_code a) (all_codes p) e).0).1
-code_high (a ∷ p) (suc k) e h = code_high p k (and_parts (is_code a) (all_codes p) e).1 (omega arith)
-
 -- the path of a word of bytes is one of codes
 pub path_codes : (w : List ℕ) → ((k : ℕ) → slice_index w k < 256) → all_codes (path_of w) ≡ true
 path_codes [] bytes = refl

@@ -1,8 +1,9 @@
-use Rattle.std.proofs.Common.{◌≡◌, Ok, ap, ◌∙◌, rules}
+use Rattle.std.proofs.Common.{◌≡◌, eqb, Ok, ap, ◌∙◌, rules}
 use Rattle.script.proofs.Apart.{words_apart}
 use Rattle.link_table.specs.declared.table.LinkTable.{LinkTable}
 use Rattle.store.specs.Links.{word_kit, link_answer}
-use Rattle.share.specs.Shares.{total_of, share_answer}
+use Rattle.share.specs.Shares.{present_in, share_answer}
+use Rattle.share.specs.Totals.{total_of}
 use Rattle.share.specs.Laws.{tally_kit}
 use Rattle.share.proofs.Answers.{share_is}
 use Rattle.share.proofs.Laws.{share_law}
@@ -26,7 +27,7 @@ returns g c =
     let m = g.met.S.Script in
     let K = word_kit g.S.Script g.L.ReadableList in
     let link = c.in_ok-link.link in
-    let total = c.total-total.ensures.sum ∙ ap (λ (s : LinkTable). total_of s rs link.x q) c.links.ensures in
+    let total = c.total-total.ensures.sum ∙ ap (λ (s : LinkTable). total_of eqb (present_in s rs) link.x q) c.links.ensures in
     let answer : g.L.ReadableList.sound l → Ok c.millionths.result ≡ share_answer t rs q (link_answer K l t x y q) =
     λ ok. share_is K l t rs x y q link (c.in_ok-link.ensures ok) c.millionths.result c.count_at-count.result c.total-total.result c.count_at-count.ensures total c.millionths.ensures in
     record {

@@ -1,6 +1,7 @@
 use Rattle.std.proofs.Common.{◌≡◌, ℕ, ◌+◌, ◌*◌, ap, ◌∙◌, arith}
 use Rattle.listing.specs.Rows.{rows_below}
 use Rattle.share.specs.Shares.{sum_at}
+use Rattle.share.proofs.Present.{rows_total}
 use Rattle.share.proofs.Totals.{front, total_none, total_more}
 use Rattle.share.proofs.counts.total.Goals as goal
 
@@ -24,3 +25,4 @@ returns-2-clause-sum c =
     let end : l.upper + 1 ≡ 256 = omega arith in
     total_more c.args.table.now rs c.args.x c.args.relation l.upper l.sum c.sum_at-sum.result l.invariant.0 (c.sum_at-sum.ensures.sum ∙ ap (sum_at rs) rows)
     ∙ ap (λ (n : ℕ). sum_at rs (rows_below c.args.table.now c.args.x c.args.relation (256 * n))) end
+    ∙ rows_total c.args.table.now rs c.args.x c.args.relation

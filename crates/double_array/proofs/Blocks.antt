@@ -1,6 +1,6 @@
--- No path of a new triple is blocked: where all held paths have five codes, none runs through another's leaf, and none ends
--- above one.
-use Rattle.std.proofs.Common.{◌≡◌, ℕ, suc, ◌<◌, true, false, not, ◌&&◌, List, [], ◌∷◌, ◌++◌, length, is_some, Some, None, Option, sym, refl, ap, ◌∙◌, subst, ⊎_elim, append-nil, arith, length-append}
+-- No new path of a kind is blocked, where all held paths are of that kind and none of the kind goes on after another: the path
+-- of a new word, which alone ends with the end sign, and that of a new triple, which has five codes.
+use Rattle.std.proofs.Common.{◌≡◌, ℕ, suc, ◌<◌, true, false, not, ◌&&◌, List, [], ◌∷◌, ◌++◌, length, Some, None, Option, sym, refl, ap, ◌∙◌, subst, ⊎_elim, append-nil, arith}
 use Rattle.std.proofs.lemmas.Bool.{cases_Bool, cases_lt, and_from, both_ways, not_from_false}
 use Rattle.cells.specs.declared.Cell.{Cell}
 use Rattle.cells.specs.Cells.{at, is_leaf, child, some_code, all_codes}
@@ -15,8 +15,6 @@ use Rattle.cells.proofs.Sounds.{leaf_is, tidy_of}
 use Rattle.cells.proofs.Walks.{Codes, child_edge}
 use Rattle.double_array.specs.Entries.{Followed, or_stop, follow, is_new}
 use Rattle.double_array.proofs.Refusals.{short_new}
-use Rattle.link_table.specs.Codes.{Triples}
-use Rattle.link_table.proofs.Labels.{five_long}
 
 turned_onto : (p q r : List ℕ) → turned p q ++ r ≡ turned p (q ++ r)
 turned_onto [] q r = refl
@@ -49,47 +47,44 @@ gone cs q [] s codes here = record { front = []; whole = refl; reach = here }
 gone cs q (a ∷ r) s codes here =
     gone_by cs q r s a (child cs s a) here (λ t e. gone cs (a ∷ q) r t codes.1 (s, here, child_edge cs s a codes.0.0 codes.0.1 t e))
 
-module _ (cs : List Cell) (is : List ℕ) (sound : Sound cs is) (triples : Triples cs) where
-  -- a held path has five codes
-  held_five : (p : List ℕ) (n : ℕ) → Held cs (turned p []) n → length p ≡ 5
-  held_five p n held = five_long p (triples p (ap is_some (held_number cs p n held)))
+-- paths of a kind: the root's is not, none goes on after another, and every held path of the cells is
+pub record Kind (cs : List Cell) (P : List ℕ → Type 0) : Type 0 where
+  pub some : P [] → ⊥
+  pub alone : (p : List ℕ) (a : ℕ) (q : List ℕ) → P p → P (p ++ a ∷ q) → ⊥
+  pub held : (p : List ℕ) (n : ℕ) → Held cs (turned p []) n → P p
 
-  -- a path of five codes leads to no cell, unless it is held
-  no_cell : 1 < length cs → (p : List ℕ) (t : ℕ) → length p ≡ 5 → number_at cs p ≡ None → Reach cs (turned p []) t → ⊥
-  no_cell long p t five none r =
+module _ (cs : List Cell) (is : List ℕ) (sound : Sound cs is) (P : List ℕ → Type 0) (kind : Kind cs P) where
+  -- a path of the kind leads to no cell, unless it is held
+  no_cell : 1 < length cs → (p : List ℕ) (t : ℕ) → P p → number_at cs p ≡ None → Reach cs (turned p []) t → ⊥
+  no_cell long p t of none r =
       let tidy = tidy_of cs is sound long in
-      let root : t ≡ 1 → ⊥ = λ e. omega (arith, ap length (sym (turned_back p) ∙ ap (λ (z : List ℕ). turned z []) (reach_unique cs (turned p []) [] t r e))) in
+      let root : t ≡ 1 → ⊥ = λ e. kind.some (subst P (sym (turned_back p) ∙ ap (λ (z : List ℕ). turned z []) (reach_unique cs (turned p []) [] t r e)) of) in
       let on = extends cs tidy.tree tidy.whole (length cs) (turned p []) t (omega arith) r root in
-      below p five none on.0 on.1 on.2
+      let there : Held cs (turned (turned (on.0 ++ turned p []) []) []) on.1 = subst (λ (z : List ℕ). Held cs z on.1) (sym (turned_back (on.0 ++ turned p []))) on.2 in
+      further (turned on.0 []) on.1 (subst (λ (z : List ℕ). Held cs (turned z []) on.1) (turned_more on.0 p) there)
     where
-      below : (p : List ℕ) → length p ≡ 5 → number_at cs p ≡ None → (q : List ℕ) (n : ℕ) → Held cs (q ++ turned p []) n → ⊥
-      below p five none q n held =
-          let there : Held cs (turned (turned (q ++ turned p []) []) []) n = subst (λ (z : List ℕ). Held cs z n) (sym (turned_back (q ++ turned p []))) held in
-          further p five none (turned q []) n (subst (λ (z : List ℕ). Held cs (turned z []) n) (turned_more q p) there)
-        where
-          further : (p : List ℕ) → length p ≡ 5 → number_at cs p ≡ None → (q : List ℕ) (n : ℕ) → Held cs (turned (p ++ q) []) n → ⊥
-          further p five none [] n held = no_some (suc n) (sym none ∙ held_number cs p n (subst (λ (z : List ℕ). Held cs (turned z []) n) (append-nil p) held))
-          further p five none (a ∷ q) n held = omega (arith, held_five (p ++ a ∷ q) n held, length-append p (a ∷ q))
+      further : (q : List ℕ) (n : ℕ) → Held cs (turned (p ++ q) []) n → ⊥
+      further [] n held = no_some (suc n) (sym none ∙ held_number cs p n (subst (λ (z : List ℕ). Held cs (turned z []) n) (append-nil p) held))
+      further (a ∷ q) n held = kind.alone p a q of (kind.held (p ++ a ∷ q) n held)
 
-  -- so the path of a new triple leaves the tree before its end, at a node that is no leaf
-  unblocked_long : 1 < length cs → (p : List ℕ) → all_codes p ≡ true → length p ≡ 5 → number_at cs p ≡ None → is_new cs p ≡ true
-  unblocked_long long p codes five none =
+  -- so the path leaves the tree before its end, at a node that is no leaf
+  unblocked_long : 1 < length cs → (p : List ℕ) → all_codes p ≡ true → P p → number_at cs p ≡ None → is_new cs p ≡ true
+  unblocked_long long p codes of none =
       let g = gone cs [] p 1 (codes_from p codes) refl in
       left (follow cs 1 p) g
     where
       rest_some : (f : Followed) → Gone cs [] p f → (r : List ℕ) → f.rest ≡ r → some_code r ≡ true
       rest_some f g [] e =
           let all : p ≡ g.front = g.whole ∙ ap (λ (z : List ℕ). g.front ++ z) e ∙ append-nil g.front in
-          absurd (no_cell long p f.node five none (subst (λ (z : List ℕ). Reach cs (turned z []) f.node) (sym all) g.reach))
+          absurd (no_cell long p f.node of none (subst (λ (z : List ℕ). Reach cs (turned z []) f.node) (sym all) g.reach))
       rest_some f g (a ∷ r) e = refl
 
       not_leaf_at : (f : Followed) → Gone cs [] p f → (r : List ℕ) → f.rest ≡ r → some_code r ≡ true → is_leaf cs f.node ≡ true → ⊥
       not_leaf_at f g [] e some leaf = both_ways false refl some
       not_leaf_at f g (a ∷ r) e some leaf =
           let b = leaf_is (at cs f.node).base leaf in
-          let held : Held cs (turned g.front []) b.0 = (f.node, g.reach, b.1) in
           let whole : p ≡ g.front ++ a ∷ r = g.whole ∙ ap (λ (z : List ℕ). g.front ++ z) e in
-          omega (arith, held_five g.front b.0 held, length-append g.front (a ∷ r), ap length whole)
+          kind.alone g.front a r (kind.held g.front b.0 (f.node, g.reach, b.1)) (subst P whole of)
 
       left : (f : Followed) → Gone cs [] p f → (some_code f.rest && not (is_leaf cs f.node)) ≡ true
       left f g =
@@ -97,9 +92,11 @@ module _ (cs : List Cell) (is : List ℕ) (sound : Sound cs is) (triples : Tripl
           and_from (some_code f.rest) (not (is_leaf cs f.node)) some
           (⊎_elim (λ leaf. absurd (not_leaf_at f g f.rest refl some leaf)) (λ inner. not_from_false (is_leaf cs f.node) inner) (cases_Bool (is_leaf cs f.node)))
 
-  pub unblocked : (p : List ℕ) → all_codes p ≡ true → length p ≡ 5 → number_at cs p ≡ None → is_new cs p ≡ true
-  unblocked p codes five none =
+  -- the path, too, of an array without cells
+  pub unblocked : (p : List ℕ) → all_codes p ≡ true → P p → number_at cs p ≡ None → is_new cs p ≡ true
+  unblocked [] codes of none = absurd (kind.some of)
+  unblocked (a ∷ p) codes of none =
       ⊎_elim
-      (λ long. unblocked_long long p codes five none)
-      (λ few. short_new cs is (omega arith) p (omega arith))
+      (λ long. unblocked_long long (a ∷ p) codes of none)
+      (λ few. short_new cs is (omega arith) (a ∷ p) (omega arith))
       (cases_lt 1 (length cs))
