@@ -1,8 +1,9 @@
 -- Ties and deletes between known words, by the cells of the table.
-use Rattle.std.proofs.Common.{◌≡◌, ℕ, ◌+◌, ◌-◌, min, Bool, true, false, cond, not, eqb, List, [], ◌∷◌, length, is_some, Some, None, Ok, Err, Option, Result, unwrap_or, sym, refl, ap, ◌∙◌, subst, arith}
+use Rattle.std.proofs.Common.{◌≡◌, ℕ, ◌+◌, ◌-◌, min, Bool, true, false, cond, not, eqb, List, length, is_some, Some, None, Ok, Err, Option, Result, unwrap_or, sym, refl, ap, ◌∙◌, subst, arith}
 use Rattle.refusal.specs.declared.Side.TheVariants.{First, Second}
 use Rattle.refusal.specs.declared.Refusal.{Refusal}
-use Rattle.refusal.specs.declared.Refusal.TheVariants.{WordLength, RelationZero, RecordUnsound, UnknownWord, TriplePresent, TripleAbsent, NoPlace, NumbersHeld}
+use Rattle.refusal.specs.declared.Refusal.TheVariants.{WordLength, RelationZero, NoPlace}
+use Rattle.script.specs.Words.{word_sized}
 use Rattle.cells.specs.declared.Cell.{Cell}
 use Rattle.cells.specs.Placing.{Arrays, enter}
 use Rattle.cells.specs.Pruning.{take_out}
@@ -16,7 +17,7 @@ use Rattle.link_table.specs.Tables.{limit, numbers, Put, Out}
 use Rattle.link_table.specs.declared.triple.Triple.{Triple}
 use Rattle.history.specs.declared.replies.Link.{Link}
 use Rattle.history.specs.Kits.{Kit, State, number_in, triple_in}
-use Rattle.history.specs.Refusals.{first, none}
+use Rattle.history.specs.Refusals.{first, tie_refusals, delete_refusals}
 use Rattle.history.specs.Calls.{Decided, LinkMade, figures_of, refusal_of_tie, refusal_of_delete}
 use Rattle.worked_examples.specs.Triples.{Word, NewStore, Tied, Deleted}
 use Rattle.worked_examples.proofs.Starts.{new_cells}
@@ -39,18 +40,6 @@ some_cells : (o : Option Arrays) → is_some (cells_in o) ≡ is_some o
 some_cells None = refl
 some_cells (Some xs) = refl
 
--- the refusal of a tie, by what its tests come to
-abbrev tie_tests : Bool → Bool → Bool → Bool → Option ℕ → Option ℕ → Bool → Bool → Bool → Option Refusal
-tie_tests x_sized y_sized zero good a b held full place = first (
-    (not x_sized, WordLength First) ∷ (not y_sized, WordLength Second) ∷ (zero, RelationZero) ∷ (not good, RecordUnsound)
-    ∷ (none a, UnknownWord First) ∷ (none b, UnknownWord Second) ∷ (held, TriplePresent) ∷ (full, NumbersHeld) ∷ (not place, NoPlace) ∷ [])
-
--- and that of a delete
-abbrev delete_tests : Bool → Bool → Bool → Option ℕ → Option ℕ → Bool → Option Refusal
-delete_tests x_sized y_sized zero a b held = first (
-    (not x_sized, WordLength First) ∷ (not y_sized, WordLength Second) ∷ (zero, RelationZero)
-    ∷ (none a, UnknownWord First) ∷ (none b, UnknownWord Second) ∷ (not held, TripleAbsent) ∷ [])
-
 module _ {S L R : Type 0} (K : Kit S L R) where
   -- a state has the list l, and a table of three link numbers with the cells cs, of which k are held
   pub record Known (l : L) (s : State L R) (cs : List Cell) (k : ℕ) : Type 0 where
@@ -72,6 +61,10 @@ module _ {S L R : Type 0} (K : Kit S L R) where
   counted l s cs k H = λ i. record { triples = H.held i; cells = in_use (H.cells i) }
 
   module _ (l : L) (s t : State L R) (cs : List Cell) (k : ℕ) (H : Known l s cs k) (a b : ℕ) (x : Word K l a) (y : Word K l b) (q : ℕ) (some : eqb q 0 ≡ false) where
+    -- lengths and relation are not refused
+    fit : (o : Option Refusal) → cond (not (word_sized x.symbols)) (Some (WordLength First)) (cond (not (word_sized y.symbols)) (Some (WordLength Second)) (cond (eqb q 0) (Some RelationZero) o)) ≡ o
+    fit o = λ i. cond (not (x.sized i)) (Some (WordLength First)) (cond (not (y.sized i)) (Some (WordLength Second)) (cond (some i) (Some RelationZero) o))
+
     x_number : number_in K s.list x.symbols ≡ Some a
     x_number = ap (λ (z : L). number_in K z x.symbols) H.list ∙ x.number
 
@@ -97,7 +90,7 @@ module _ {S L R : Type 0} (K : Kit S L R) where
         let held = held_is ∙ absent in
         let full : eqb (length (numbers s.table)) (limit s.table) ≡ false = ap (λ (n : ℕ). eqb n (limit s.table)) H.held ∙ ap (eqb k) H.most ∙ spare in
         let placed = place_is ∙ has in
-        λ i. tie_tests (x.sized i) (y.sized i) (some i) (sound i) (x_number i) (y_number i) (held i) (full i) (placed i)
+        (λ i. first (tie_refusals x.symbols y.symbols q (sound i) (x_number i) (y_number i) (held i) (full i) (placed i))) ∙ fit (cond (not place) (Some NoPlace) None)
 
     -- the code has a place, whatever the index: the triple is tied
     pub tied : (n : Result Link Refusal) → Tied K s x.symbols y.symbols q n t → is_some (number_at cs (path_of_triple (triple a q b))) ≡ false → eqb k 3 ≡ false
@@ -135,7 +128,8 @@ module _ {S L R : Type 0} (K : Kit S L R) where
         → (u : ℕ) × (n ≡ Ok u) × Out s.table (triple a q b) u t.table × Known l t ds (k - 1)
     taken n D there ds step =
         let held = held_is ∙ there in
-        let fine : refusal_of_delete K s.list s.table x.symbols y.symbols q ≡ None = λ i. delete_tests (x.sized i) (y.sized i) (some i) (x_number i) (y_number i) (held i) in
+        let fine : refusal_of_delete K s.list s.table x.symbols y.symbols q ≡ None =
+        (λ i. first (delete_refusals x.symbols y.symbols q (x_number i) (y_number i) (held i))) ∙ fit None in
         let gone = subst (λ (o : Option Refusal). Decided o s.table n t.table ((u : ℕ) × (n ≡ Ok u) × Out s.table (triple_in K s.list x.symbols y.symbols q) u t.table)) fine D.deletes in
         let out : Out s.table (triple a q b) gone.0 t.table = subst (λ (c : Triple). Out s.table c gone.0 t.table) triple_is gone.2 in (
           gone.0,
