@@ -2,3 +2,4 @@ pub mod Starts
 pub mod Words
 pub mod Triples
 pub mod Examples
+pub mod Tables
