@@ -6,10 +6,11 @@ use link_table::Triple;
 use plain_list::PlainList;
 use record::{Score, Tally};
 use refusal::Refusal;
-use std::alloc::{AllocError, Global};
+use std::alloc::{AllocError, AllocGlobal, Global};
 use std::process::Abort;
 use std::test::Fail;
 use store::RelationTable;
+use word_triple::WordTriple;
 
 const ONE: Tally = Tally { count: 1 };
 
@@ -72,6 +73,42 @@ fn a_full_table_tells_what_is_present(rt: HostRuntime) -> Result<(), Fail> {
         let added = links.add(&mut list, &mut records, words, ONE);
         assert_eq!(&rt; added, answer);
     }
+    Ok(())
+}
+
+// The ties in a new store of so many link cells get these answers, and then figures answers this.
+fn tied(
+    rt: &(impl Abort + AllocGlobal),
+    list: &PlainList,
+    cells: usize,
+    ties: &[(WordTriple<'_, u8>, Result<Link, Refusal>)],
+    after: Figures,
+) -> Result<RelationTable, Fail> {
+    let mut records = [ONE; 3];
+    let mut links = table(rt.alloc(), list, &records, cells, 3)?;
+    for (words, answer) in ties {
+        assert_eq!(rt; links.tie(list, &mut records, *words, ONE), *answer);
+    }
+    assert_eq!(rt; links.figures(), after);
+    Ok(links)
+}
+
+#[test]
+fn ties_in_few_cells(rt: HostRuntime) -> Result<(), Fail> {
+    let mut list = plain(rt.alloc(), 3)?;
+    for (word, number) in [(b"a", 1), (b"b", 2), (b"c", 3)] {
+        assert_eq!(&rt; list.enter(word), Ok(number));
+    }
+    let none = Err(Refusal::NoPlace);
+    let one = (words(b"a", 4, b"b"), link(1, 2, 1));
+    let two = (words(b"a", 5, b"b"), link(1, 2, 2));
+    let three = (words(b"a", 4, b"c"), link(1, 3, 3));
+    tied(&rt, &list, 8, &[one], figures(1, 6))?;
+    tied(&rt, &list, 7, &[(one.0, none)], figures(0, 1))?;
+    tied(&rt, &list, 12, &[one, two, (three.0, none)], figures(2, 9))?;
+    let mut links = tied(&rt, &list, 13, &[one, two, three], figures(3, 10))?;
+    assert_eq!(rt; links.delete(&list, two.0), Ok(2));
+    assert_eq!(rt; links.figures(), figures(2, 7));
     Ok(())
 }
 
