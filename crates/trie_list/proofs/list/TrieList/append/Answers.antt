@@ -1,12 +1,25 @@
 use Rattle.std.proofs.Common.{◌≡◌, ℕ, ◌+◌, ◌<◌, min, List, length, Some, refl, ap, ◌∙◌, subst, arith}
 use Rattle.std.proofs.lemmas.Result.{err_from_is_err_and}
 use Rattle.refusal.specs.Reports.{path_refusal}
-use Rattle.cells.specs.Placing.{Arrays}
+use Rattle.cells.specs.Placing.{Arrays, enter}
 use Rattle.double_array.specs.Entries.{refusal}
 use Rattle.double_array.specs.Views.{cells_of, index_of}
+use Rattle.trie_list.specs.Paths.{path_of}
 use Rattle.trie_list.specs.RollsLemmas.{grown_listed, grown_words}
 use Rattle.trie_list.specs.Lists.{listed, append_refused, refused_place, room_yes, entered_as}
 use Rattle.trie_list.proofs.list.TrieList.append.Goals as goal
+use Rattle.trie_list.proofs.list.TrieList.append.Goals.{In_ok-enter}
+
+-- a number was left, and the word's path was entered
+module _ (c : In_ok-enter) where
+  left : c.args.self.now.count < min (length (index_of c.args.self.now.array)) 65535
+  left = omega (arith, c.min.ensures, ap length c.index.ensures, c.if-self-min.false)
+
+  abbrev after : Arrays
+  after = record { cells = cells_of c.enter.new.self; index = index_of c.enter.new.self }
+
+  did : enter (cells_of c.args.self.now.array) (index_of c.args.self.now.array) (path_of c.args.word.now) c.args.self.now.count ≡ Some after
+  did = entered_as c.args.self.now c.args.word.now c.requires.sized c.requires.absent (λ k. omega (arith, c.type_inv.word k)) left _ after (c.as_slice.ensures.value ∙ c.path_of-path.ensures) c.in_ok-enter.ensures.cells.1
 
 pub returns-in_err-enter : goal.returns-in_err-enter
 returns-in_err-enter c =
@@ -25,28 +38,17 @@ returns-in_err-enter c =
 pub invariant_of-self-2 : goal.invariant_of-self-2
 invariant_of-self-2 c =
     let s = c.args.self.now in
-    let w = c.args.word.now in
-    let d = c.enter.new.self in
-    let xs : Arrays = record { cells = cells_of d; index = index_of d } in
-    let slice = c.as_slice.ensures.value ∙ c.path_of-path.ensures in
-    let long = ap length c.index.ensures in
-    let left : s.count < min (length (index_of s.array)) 65535 = omega (arith, c.min.ensures, long, c.if-self-min.false) in
-    let did = entered_as s w c.requires.sized c.requires.absent (λ k. omega (arith, c.type_inv.word k)) left _ xs slice c.in_ok-enter.ensures.cells.1 in
-    let l = grown_listed (cells_of s.array) (index_of s.array) s.count (listed s) w xs c.requires.sized (omega arith) (omega arith) did in
+    let at = (goal.at.invariant_of-self-2 c).In_ok-enter in
+    let l = grown_listed (cells_of s.array) (index_of s.array) s.count (listed s) c.args.word.now (after at) c.requires.sized (omega (arith, left at)) (omega (arith, left at)) (did at) in
     record { within = l.within; few = l.few; numbered = l.numbered; unnumbered = l.unnumbered; counted = l.counted; worded = l.worded }
 
 pub returns : goal.returns
 returns c =
     let s = c.args.self.now in
     let w = c.args.word.now in
-    let d = c.enter.new.self in
-    let xs : Arrays = record { cells = cells_of d; index = index_of d } in
-    let slice = c.as_slice.ensures.value ∙ c.path_of-path.ensures in
-    let long = ap length c.index.ensures in
-    let left : s.count < min (length (index_of s.array)) 65535 = omega (arith, c.min.ensures, long, c.if-self-min.false) in
-    let did = entered_as s w c.requires.sized c.requires.absent (λ k. omega (arith, c.type_inv.word k)) left _ xs slice c.in_ok-enter.ensures.cells.1 in (
-      room_yes s w c.requires.sized c.requires.absent (λ k. omega (arith, c.type_inv.word k)) left xs did,
+    let at = (goal.at.returns c).In_ok-enter in (
+      room_yes s w c.requires.sized c.requires.absent (λ k. omega (arith, c.type_inv.word k)) (left at) (after at) (did at),
       refl,
-      record { arrays_after = did; count_after = refl },
-      grown_words (cells_of s.array) (index_of s.array) s.count (listed s) w xs c.requires.sized (omega arith) (omega arith) did,
+      record { arrays_after = did at; count_after = refl },
+      grown_words (cells_of s.array) (index_of s.array) s.count (listed s) w (after at) c.requires.sized (omega (arith, left at)) (omega (arith, left at)) (did at),
     )
