@@ -1,13 +1,13 @@
 #!/usr/bin/env python3
-"""A model of the program `links`, written from docs/ alone and without a look at the code. Its output is the
-stored output of the program:
+"""A model of the program `links`, written from docs/ alone. Its output is the stored output of the program:
 
     python3 tools/links_model.py < crates/links/stdin | cmp - crates/links/stdout
 
 usage: links_model.py [--list-cells N] [--table-cells N] [--words N] [--records N] [--index N]
-                      [--numbers lowest|highest|next|random] < stdin > stdout
+                      [--numbers lowest|highest|next|random] [--figures] < stdin > stdout
 
---numbers says which free link number a new triple takes; nothing that is printed depends on it."""
+--numbers says which free link number a new triple takes; nothing that is printed depends on it. --figures
+adds on stderr how many words, triples and cells there are at the end, and how often a family moved."""
 import argparse
 import random
 import sys

@@ -9,8 +9,7 @@ pub struct LineRow {
     pub count: u32,
 }
 
-// An array with a length beside it: an answer stays `Copy`, a rule of the project, and a vector of the
-// library is not.
+// An array with a length beside it: an answer is `Copy`, and a vector of the library is not.
 #[derive(Clone, Copy)]
 pub struct LineRows {
     pub(super) rows: [LineRow; 100],

@@ -14,7 +14,7 @@ use Rattle.refusal.specs.declared.PathFault.TheVariants.{Path, Number, Blocked, 
 use Rattle.refusal.specs.declared.NumberFault.{NumberFault}
 use Rattle.refusal.specs.declared.NumberFault.TheVariants.{Unknown, Short as TooShort}
 use Rattle.refusal.specs.declared.LinkFault.{LinkFault}
-use Rattle.refusal.specs.declared.LinkFault.TheVariants.{TriplePresent as IsPresent, TripleAbsent as IsAbsent, NoPlace as NoCell, NumbersHeld as AllHeld, UnknownLink as NoLink}
+use Rattle.refusal.specs.declared.LinkFault.TheVariants.{TriplePresent as IsPresent, TripleAbsent as IsAbsent, NoPlace as NoCell, NumbersHeld as AllHeld}
 use Rattle.refusal.specs.declared.ListFault.{ListFault}
 use Rattle.refusal.specs.declared.ListFault.TheVariants.{WordLength as NotSized, UnknownWord as NotHeld, NoRoom as Full, OutputTooShort as Short}
 
@@ -62,7 +62,6 @@ link_refusal IsPresent = TriplePresent
 link_refusal IsAbsent = TripleAbsent
 link_refusal NoCell = NoPlace
 link_refusal AllHeld = NumbersHeld
-link_refusal NoLink = UnknownLink
 
 -- the number of a layer
 abbrev pub layer_number : Layer → ℕ

@@ -95,8 +95,6 @@ pub enum LinkFault {
     NoPlace,
     // All link numbers are held: delete a triple, or make a larger index and more records.
     NumbersHeld,
-    // No present triple has the link number.
-    UnknownLink,
 }
 
 // Entering a path into a double array, in the order in which it is judged.
@@ -199,7 +197,6 @@ impl From<LinkFault> for Refusal {
             LinkFault::TripleAbsent => Refusal::TripleAbsent,
             LinkFault::NoPlace => Refusal::NoPlace,
             LinkFault::NumbersHeld => Refusal::NumbersHeld,
-            LinkFault::UnknownLink => Refusal::UnknownLink,
         }
     }
 }
