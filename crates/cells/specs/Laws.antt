@@ -127,6 +127,6 @@ pub record Holds (cs : List Cell) (ks : List (List ℕ)) : Type 0 where
   pub sound : (p : List ℕ) → In ks p → is_some (number_at cs p) ≡ true
   pub whole : (p : List ℕ) → is_some (number_at cs p) ≡ true → In ks p
 
--- the cells in use are one more than the different beginnings of the held paths, in an array of two cells or more
+-- the cells in use are one more than the different non-empty beginnings of the held paths, in an array of two cells or more
 abbrev pub Counting : Type 0
 Counting = (cs : List Cell) (is : List ℕ) (ks : List (List ℕ)) → 1 < length cs → Sound cs is → Holds cs ks → in_use cs ≡ 1 + length (beginnings ks)

@@ -1,8 +1,8 @@
 // Cells: the double array as a list of cells, its rules and what they come to.
 //
 // This crate knows cells, codes 1 to 257, paths, leaf numbers and the leaf index. It knows nothing
-// of words or triples, and it has no code that works on cells: specs/ defines the rules, in the
-// order in which docs/CELLS.md tells them, and the contracts below are the theorems about them.
+// of words or triples, and it has no code that works on cells: specs/ defines the rules, which
+// docs/CELLS.md tells, and the contracts below are the theorems about them.
 #![tactic(auto)]
 
 ghost use Rattle.cells.specs.Laws.{Starting, Unused, Walking, Climbing, Indexing, Counting};
@@ -25,7 +25,8 @@ impl Cell {
 
 // What an array says: a new one is sound and holds no path; cell 0 is never used; walking finds
 // exactly the paths held; climbing from a cell spells its path; the index leads each number to its
-// leaf; and the cells in use are one more than the different beginnings of the held paths.
+// leaf; and the cells in use are, in an array of two cells or more, one more than the different
+// non-empty beginnings of the held paths.
 pub fn reading_laws()
     ensures starting { Starting }
     ensures unused { Unused }

@@ -36,6 +36,6 @@ Taken cs is p (Some u) xs js = (number_at cs p ≡ Some u) × (take_out cs is p 
 abbrev pub Removed : List Cell → List ℕ → List Cell → Type 0
 Removed cs p xs = (q : List ℕ) → number_at xs q ≡ cond (same_path q p) None (number_at cs q)
 
--- n is one more than the different beginnings of the held paths, in an array of two cells or more
+-- n is one more than the different non-empty beginnings of the held paths, in an array of two cells or more
 abbrev pub Counted : List Cell → ℕ → Type 0
 Counted cs n = (ks : List (List ℕ)) → 1 < length cs → Holds cs ks → n ≡ 1 + length (beginnings ks)

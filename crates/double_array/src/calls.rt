@@ -68,7 +68,8 @@ impl DoubleArray {
         self.nodes.path_of(number, out)
     }
 
-    // How many cells are in use: one more than the different beginnings of the held paths, in an array of two cells or more.
+    // How many cells are in use: one more than the different non-empty beginnings of the held paths, in
+    // an array of two cells or more.
     pub fn in_use(&self) -> usize
         ensures cells { result ≡ in_use (cells_of self.now) }
         ensures paths { Counted (cells_of self.now) result }

@@ -7,8 +7,7 @@ use cells::Cell;
 
 // The cells that the nodes stand in, and the index. What holds of them between calls only is told by
 // `DoubleArray`; a step asks for what it needs of it. Each step says that the two vectors stay where they
-// are (`SameBuffers`): a model of the lists alone is no plainer where a refused call is to leave the very
-// same value.
+// are (`SameBuffers`), so that a refused call can leave the very same value, and not only equal cells.
 #[derive(Drop)]
 pub struct Nodes {
     pub(super) cells: Vec<Cell>,

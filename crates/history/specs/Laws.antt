@@ -63,7 +63,8 @@ module _ {S L R : Type 0} (K : Kit S L R) where
         → (r : LinkRow) × In (rows_in K s.list s.table x q) r × (r.relation ≡ e.relation) × (number_in K s.list e.y ≡ Some r.y) × (r.link ≡ e.link)
     pub as_many : length (rows_in K s.list s.table x q) ≡ length (entries_of K es x q)
 
-  -- the next call is accepted unless a refusal listed for it applies, judged by the roll and the present triples
+  -- the next call is accepted unless a refusal listed for it applies, judged by the roll and the present triples, room by the list and
+  -- a place by the cells
   pub record Next (es : List (Entry S R)) (s : State L R) : Type 0 where
     pub add : (room : L → List ℕ → Bool) (x y : List S) (q : ℕ) (r : R) (n : Result Link Refusal) (t : State L R) → (a : Adds K room anything s x y q r n t)
         → Unless (first (add_refusals x y q (K.good r) (lacks K room s.list x) (lacks K room a.mid y) (has_triple K es x y q) (length es == limit s.table) (place_in K a.last s.table x y q))) n
@@ -90,7 +91,7 @@ module _ {S L R : Type 0} (K : Kit S L R) where
     pub once : (e f : Entry S R) → In (present K h) e → In (present K h) f → same_triple K f.x f.y f.relation e ≡ true → e ≡ f
     -- each of them is read by its number and found by its words
     pub answers : (e : Entry S R) → In (present K h) e → Answers s e
-    -- in an array of two cells or more the cells in use are one more than the different beginnings of the present codes
+    -- in an array of two cells or more the cells in use are one more than the different non-empty beginnings of the present codes
     pub in_use : 2 ≤ length (cells_of s.table.array) → (figures_of s.table).cells ≡ 1 + length (beginnings (map (code_in s.list) (present K h)))
     -- walking finds exactly the present codes, each with its number
     pub walks : (p : List ℕ) (u : ℕ) → number_at (cells_of s.table.array) p ≡ Some u → (e : Entry S R) × In (present K h) e × (path_of_labels (code_in s.list e) ≡ p) × (e.link ≡ u)

@@ -166,7 +166,7 @@ abbrev pub anything : {L : Type 0} → L → List ℕ → L → Type 0
 anything l w l' = Unit {0}
 
 -- the histories that lead from a new store to a state. A store is new when its link table was made for its records; its list
--- may hold words. Each call keeps its rule, refused ones too; a list that does not grow takes no add
+-- may hold words. Each call keeps its rule, refused ones too, whichever words have room and whatever the list's own arrays hold
 pub data Reached {S L R : Type 0} (K : Kit S L R) : History S R → State L R → Type 0 where
   new : {l : L} {t : LinkTable} {rs : List R} {n k : ℕ} → K.sound l → Made n k (length rs) t → Reached K [] (state_of l t rs)
   after : {h : History S R} {s t : State L R} {c : Call S R} {n : Result (Reply R) Refusal} (room : L → List ℕ → Bool) (out out' : List LinkRow) → Reached K h s → Steps K room anything s out c n t out' → Reached K (event_of c n ∷ h) t

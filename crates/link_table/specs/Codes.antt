@@ -25,12 +25,12 @@ triple_of p = record {
   y = (slice_index p 3 - 2) * 256 + (slice_index p 4 - 2);
 }
 
--- whether each of them is the code of a label
+-- whether each of them is 2 or more, as the code of a label is
 abbrev pub all_labels : List ℕ → Bool
 all_labels [] = true
 all_labels (a ∷ more) = nat_le 2 a && all_labels more
 
--- whether it is the path of five labels
+-- whether it is five codes of 2 or more, as the path of five labels is
 abbrev pub is_triple_path : List ℕ → Bool
 is_triple_path p = length p == 5 && all_labels p
 

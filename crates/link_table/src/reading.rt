@@ -41,8 +41,8 @@ impl LinkTable {
         self.count
     }
 
-    // How many cells are in use: one more than the different beginnings of the present codes, in an
-    // array of two cells or more.
+    // How many cells are in use: one more than the different non-empty beginnings of the present
+    // codes, in an array of two cells or more.
     pub fn in_use(&self) -> usize
         ensures cells { result ≡ in_use (cells_of self.now.array) }
         ensures paths { Counted (cells_of self.now.array) result }

@@ -2,8 +2,8 @@
 //
 // It adds pairs of words one by one. After each it prints, for every link number whose leaf stands in
 // another cell now, the cell before and after and what reading the number gives. Then it deletes a
-// pair, changes a record, ties pairs again, and prints what every number gives, and at the end the
-// figures.
+// pair, changes a record, ties a new pair and the deleted one, and prints what the numbers 1 to 10
+// give, and at the end the figures.
 #![tactic(auto)]
 
 use cells::Cell;
@@ -121,7 +121,7 @@ fn add_pairs(rt: &HostRuntime, store: &mut Store) -> io::Result<()> {
     Ok(())
 }
 
-// Deletes a pair, changes a record and ties pairs again, and prints what moved.
+// Deletes a pair, changes a record, ties a new pair and the deleted one, and prints what moved.
 fn take_and_tie(rt: &HostRuntime, store: &mut Store) -> io::Result<()> {
     let bow = WordTriple {
         x: b"rain",
@@ -161,7 +161,7 @@ fn take_and_tie(rt: &HostRuntime, store: &mut Store) -> io::Result<()> {
     show_moves(rt, store, &before)
 }
 
-// Prints what every number gives.
+// Prints what the numbers 1 to 10 give.
 fn show_all(rt: &HostRuntime, store: &mut Store) -> io::Result<()> {
     for link in 1..11 {
         print!(rt; "link {link} ")?;

@@ -56,8 +56,7 @@ pub enum Refusal {
     MalformedLine,
 }
 
-// A refusal as it is reported to the caller and printed: its number is what a line shows, a rule of the
-// formats.
+// A refusal as it is reported to the caller and printed.
 #[derive(Clone, Copy, PartialEq, Eq, Debug)]
 pub struct Report {
     pub number: u8,

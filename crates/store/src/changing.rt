@@ -1,6 +1,6 @@
 // The calls that change the table, the list or the records. What a call needs of the list and the
-// records it is lent side by side, and the record of a new triple stands beside its words: rules of the
-// project.
+// records it is lent side by side, and the record of a new triple stands beside its words: a rule of
+// the project.
 ghost use Rattle.std.specs.Prelude.{◌≡◌};
 ghost use Rattle.history.specs.Kits.{kit_of, state_of};
 ghost use Rattle.history.specs.Calls.{Adds, Ties, Deletes, Changes};

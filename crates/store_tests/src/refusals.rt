@@ -1,4 +1,5 @@
-// Each refusal of each call in its place, also where two apply at once.
+// The refusals of each call in their places, also where two apply at once; that all numbers are held
+// is in limits.rt.
 use super::making::{table, words};
 use cells::Cell;
 use history::{Figures, Link, Reading};

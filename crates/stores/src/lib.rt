@@ -2,8 +2,8 @@
 //
 // `new_store` makes the link table of a new store over a list, whatever words it holds, and its
 // records, and shows that a history begins there and that the law holds. From then on `perform` and
-// `perform_growing` of crate `requests` lead every history on. Of byte text that is a store over
-// either list and with either record type.
+// `perform_growing` of crate `requests` lead every history on. Its clause
+// `byte_text` names this once more for byte text, either list and either record type.
 #![tactic(auto)]
 
 ghost use Rattle.std.specs.Prelude.{[], length, vec_len};
