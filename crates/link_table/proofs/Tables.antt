@@ -1,5 +1,5 @@
 -- What the fields of a link table say of it.
-use Rattle.std.proofs.Common.{◌≡◌, ℕ, ◌+◌, ◌-◌, ◌<◌, ◌≤◌, Bool, true, false, cond, ◌&&◌, eqb, ltb, List, ◌∷◌, ◌++◌, length, get_or, drop, is_some, Some, None, Option, unwrap_or, sym, refl, ap, ◌∙◌, subst, ⊎_elim, append-nil, arith, length-append}
+use Rattle.std.proofs.Common.{◌≡◌, ℕ, ◌+◌, ◌-◌, ◌<◌, ◌≤◌, Bool, true, false, cond, ◌&&◌, eqb, ltb, List, ◌∷◌, ◌++◌, length, get_or, drop, is_some, Some, None, Err, Option, Result, unwrap_or, sym, refl, ap, ◌∙◌, subst, ⊎_elim, append-nil, arith, length-append}
 use mathlib.Core.HLevel.{is_prop→PathP}
 use native.Mathlib.Bridge.{le_prop}
 use native.Mathlib.Nat.{ℕ_set}
@@ -7,9 +7,12 @@ use denote.Struct.Props.{props}
 use Rattle.std.specs.List.{range_with_len}
 use Rattle.std.proofs.lemmas.Bool.{both_ways, cases_Bool, cond-true, cond-false, cond_both, and_from, and_right, lt-ltb, le-ltb, eq-eqb}
 use Rattle.std.proofs.lemmas.List.{drop_all}
+use Rattle.refusal.specs.Reports.{triple_path_refusal}
 use Rattle.refusal.specs.declared.PathFault.{PathFault}
+use Rattle.refusal.specs.declared.PathFault.TheVariants.{NoPlace as NoPlaceOfPath}
 use Rattle.refusal.specs.declared.NumberFault.{NumberFault}
 use Rattle.refusal.specs.declared.NumberFault.TheVariants.{Unknown, Short}
+use Rattle.refusal.specs.declared.LinkFault.{LinkFault}
 use Rattle.refusal.specs.declared.LinkFault.TheVariants.{TriplePresent, NoPlace, NumbersHeld}
 use Rattle.cells.specs.Cells.{all_codes}
 use Rattle.cells.specs.Counting.{same_path}
@@ -31,7 +34,7 @@ use Rattle.double_array.proofs.Refusals.{judged_by}
 use Rattle.double_array.proofs.Spells.{named_of}
 use Rattle.link_table.specs.Codes.{path_of_triple, triple_of, is_triple_path, Triples}
 use Rattle.link_table.specs.Numbers.{held, Numbered}
-use Rattle.link_table.specs.Tables.{limit, found, coded, numbers, all_held, has_place, Lawful, Put, Out, put_refusal}
+use Rattle.link_table.specs.Tables.{limit, found, coded, numbers, all_held, has_place, Lawful, Put, Out, put_refusal, Puts}
 use Rattle.link_table.specs.declared.triple.Triple.{Triple}
 use Rattle.link_table.specs.declared.table.LinkTable.{LinkTable}
 use Rattle.link_table.proofs.Labels.{five_long, path_back, triple_back, triple_five, number_codes}
@@ -206,6 +209,10 @@ put_full s triple none all =
 pub count_few : (s : LinkTable) → s.count ≤ 1048575
 count_few s = omega (arith, s.few, s.counted, kept_few (is_known (index_of s.array)) 1 (length (index_of s.array)))
 
+-- a refusal that was answered, of a table that stayed
+pub refused_as : (s t : LinkTable) (triple : Triple) (r : Result ℕ LinkFault) (e : LinkFault) → r ≡ Err e → put_refusal s triple ≡ Some e → t ≡ s → Puts s triple r t
+refused_as s t triple r e is said same = subst (λ (n : Result ℕ LinkFault). Puts s triple n t) (sym is) (said, same)
+
 -- a path of five codes
 abbrev Five : List ℕ → Type 0
 Five p = length p ≡ 5
@@ -251,11 +258,11 @@ module _ (s : LinkTable) (triple : Triple) (place : ℕ) (codes : all_codes (pat
   pub put_accepted : all_held s ≡ false → (xs : Arrays) → enter (cells_of s.array) (index_of s.array) (path_of_triple triple) (place + 1 - 1) ≡ Some xs → put_refusal s triple ≡ None
   put_accepted some xs e = refused_by some true (place_is (Some xs) e)
 
-  pub put_refused : all_held s ≡ false → (f : PathFault) → refusal (cells_of s.array) (index_of s.array) (path_of_triple triple) (place + 1) ≡ Some f → put_refusal s triple ≡ Some NoPlace
+  pub put_refused : all_held s ≡ false → (f : PathFault) → refusal (cells_of s.array) (index_of s.array) (path_of_triple triple) (place + 1) ≡ Some f → put_refusal s triple ≡ Some (triple_path_refusal f)
   put_refused some f said = by (enter (cells_of s.array) (index_of s.array) (path_of_triple triple) (place + 1 - 1)) refl
     where
-      by : (o : Option Arrays) → enter (cells_of s.array) (index_of s.array) (path_of_triple triple) (place + 1 - 1) ≡ o → put_refusal s triple ≡ Some NoPlace
-      by None e = refused_by some false (place_is None e)
+      by : (o : Option Arrays) → enter (cells_of s.array) (index_of s.array) (path_of_triple triple) (place + 1 - 1) ≡ o → put_refusal s triple ≡ Some (triple_path_refusal f)
+      by None e = refused_by some false (place_is None e) ∙ ap (λ (g : PathFault). Some (triple_path_refusal g)) (sym (some_same f NoPlaceOfPath (sym said ∙ judged ∙ ap no_place e)))
       by (Some xs) e = absurd (no_some f (sym (judged ∙ ap no_place e) ∙ said))
 
   -- the array after it was entered

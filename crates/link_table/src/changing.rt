@@ -45,9 +45,7 @@ impl LinkTable {
             return Err(LinkFault::NumbersHeld);
         };
         let number = place as u32 + 1;
-        let Ok(()) = self.array.enter(&path, number) else {
-            return Err(LinkFault::NoPlace);
-        };
+        self.array.enter(&path, number)?;
         self.count += 1;
         self.cursor = place + 1;
         Ok(number)

@@ -51,6 +51,13 @@ path_refusal Number = Full
 path_refusal Blocked = Full
 path_refusal NotPlaced = Full
 
+-- what a refused path means for a triple
+abbrev pub triple_path_refusal : PathFault → LinkFault
+triple_path_refusal Path = NoCell
+triple_path_refusal Number = AllHeld
+triple_path_refusal Blocked = IsPresent
+triple_path_refusal NotPlaced = NoCell
+
 -- what a refused number means for a word
 abbrev pub number_refusal : NumberFault → ListFault
 number_refusal Unknown = NotHeld

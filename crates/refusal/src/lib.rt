@@ -7,7 +7,7 @@
 
 ghost use Rattle.std.specs.Prelude.{◌≡◌, Some};
 ghost use Rattle.refusal.specs.declared.Side.TheVariants.{Neither};
-ghost use Rattle.refusal.specs.Reports.{report_of, report_text, spell_refusal, list_refusal, path_refusal, number_refusal, link_refusal};
+ghost use Rattle.refusal.specs.Reports.{report_of, report_text, spell_refusal, list_refusal, path_refusal, triple_path_refusal, number_refusal, link_refusal};
 
 use std::fmt;
 
@@ -211,6 +211,21 @@ impl From<PathFault> for ListFault {
             PathFault::Number => ListFault::NoRoom,
             PathFault::Blocked => ListFault::NoRoom,
             PathFault::NoPlace => ListFault::NoRoom,
+        }
+    }
+}
+
+// A triple whose path is refused. Every code of a triple is a path, a table hands out free numbers only,
+// and no code runs through the end of another, so of a table only the place is ever refused.
+impl From<PathFault> for LinkFault {
+    ghost from_gives = { λ e r. r ≡ triple_path_refusal e };
+
+    fn from(path_fault: PathFault) -> LinkFault {
+        match path_fault {
+            PathFault::Path => LinkFault::NoPlace,
+            PathFault::Number => LinkFault::NumbersHeld,
+            PathFault::Blocked => LinkFault::TriplePresent,
+            PathFault::NoPlace => LinkFault::NoPlace,
         }
     }
 }

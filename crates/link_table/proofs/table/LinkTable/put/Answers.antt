@@ -1,10 +1,12 @@
-use Rattle.std.proofs.Common.{◌≡◌, ℕ, ◌+◌, ◌<◌, ◌≤◌, false, List, length, get_or, is_some, None, Ok, Err, sym, refl, ap, ◌∙◌, subst, arith}
+use Rattle.std.proofs.Common.{◌≡◌, ℕ, ◌+◌, ◌<◌, ◌≤◌, false, List, length, get_or, is_some, Some, None, Ok, Err, sym, refl, ap, ◌∙◌, subst, arith}
 use Rattle.std.proofs.lemmas.Bool.{ne_eqb}
+use Rattle.std.proofs.lemmas.Result.{err_from_is_err_and}
 use Rattle.cells.specs.Walking.{number_at}
 use Rattle.double_array.specs.Entries.{Added, Entry}
 use Rattle.double_array.specs.Views.{cells_of, index_of}
+use Rattle.refusal.specs.declared.LinkFault.{LinkFault}
 use Rattle.link_table.specs.Tables.{limit, found, numbers, all_held}
-use Rattle.link_table.proofs.Tables.{same_table, none_of, count_few, put_full, put_accepted, put_refused, put_fields, put_done}
+use Rattle.link_table.proofs.Tables.{same_table, none_of, count_few, put_full, put_accepted, put_refused, refused_as, put_fields, put_done}
 use Rattle.link_table.proofs.table.LinkTable.put.Goals as goal
 use Rattle.link_table.proofs.table.LinkTable.put.Goals.{After-limit, After-enter}
 
@@ -39,19 +41,23 @@ invariant_of-self-2 c =
     let s = c.args.self.now in
     let at = (goal.at.invariant_of-self-2 c).After-enter in
     let place = c.in-Some.place in
-    let m = c.in-Ok.ensures in
+    let m = c.in_ok-enter.ensures in
     let d = c.enter.new.self in
     let added = subst (λ (p : List ℕ). Added (cells_of s.array) p (place + 1) (cells_of d)) c.write_code-path.ensures.path m.paths in
     put_fields s c.args.triple place c.write_code-path.ensures.codes (absent (goal.at.invariant_of-self-2 c).After-limit) (low at) (vacant at) d m.sizes.1 added
 
-pub returns-in_default-enter : goal.returns-in_default-enter
-returns-in_default-enter c =
+pub returns-in_err-enter : goal.returns-in_err-enter
+returns-in_err-enter c =
     let s = c.args.self.now in
-    let at = (goal.at.returns-in_default-enter c).After-enter in
-    let m = c.in_default-enter.ensures in
+    let at = (goal.at.returns-in_err-enter c).After-enter in
+    let m = c.in_err-enter.ensures in
     let d = c.enter.new.self in
-    let did = subst (λ (p : List ℕ). Entry (cells_of s.array) (index_of s.array) p (c.in-Some.place + 1) (Err c.in_default-enter.field-0) (cells_of d) (index_of d)) c.write_code-path.ensures.path m.cells in
-    (put_refused s c.args.triple c.in-Some.place c.write_code-path.ensures.codes (absent (goal.at.returns-in_default-enter c).After-limit) (low at) (vacant at) (some at) c.in_default-enter.field-0 did.0, same_table _ s m.same refl refl)
+    let f = c.in_err-enter.field-0.0 in
+    let did = subst (λ (p : List ℕ). Entry (cells_of s.array) (index_of s.array) p (c.in-Some.place + 1) (Err f) (cells_of d) (index_of d)) c.write_code-path.ensures.path m.cells in
+    let said = err_from_is_err_and c.from_residual.result c.from_residual.ensures.1 in
+    let new = absent (goal.at.returns-in_err-enter c).After-limit in
+    let refused = put_refused s c.args.triple c.in-Some.place c.write_code-path.ensures.codes new (low at) (vacant at) (some at) f did.0 in
+    refused_as s _ c.args.triple c.from_residual.result said.0 said.1 (refused ∙ ap (λ (g : LinkFault). Some g) (sym said.2)) (same_table _ s m.same refl refl)
 
 pub returns : goal.returns
 returns c =
@@ -61,7 +67,7 @@ returns c =
     let new = absent (goal.at.returns c).After-limit in
     let place = c.in-Some.place in
     let codes = c.write_code-path.ensures.codes in
-    let m = c.in-Ok.ensures in
+    let m = c.in_ok-enter.ensures in
     let d = c.enter.new.self in
     let path = c.write_code-path.ensures.path in
     let added = subst (λ (p : List ℕ). Added (cells_of s.array) p (place + 1) (cells_of d)) path m.paths in
