@@ -2,7 +2,7 @@
 use Rattle.std.specs.Prelude.{◌≡◌, ℕ, suc, ◌+◌, ◌<◌, true, false, cond, List, [], ◌∷◌, length, ℤ, pos, negsuc, is_some, Some, None, ◌==◌, ◌≢◌, slice_index, slice_set}
 use Rattle.cells.specs.declared.Cell.{Cell}
 use Rattle.cells.specs.Cells.{free_cell, root_cell, at, base_of, parent, is_leaf, child, child_codes, some_code, all_codes}
-use Rattle.cells.specs.Placing.{Lowest, lowest, relocated, index_relocated, Arrays, Spot, place, grow, enter, undo}
+use Rattle.cells.specs.Placing.{Free, Lowest, lowest, relocated, index_relocated, Arrays, Spot, place, grow, enter, undo}
 use Rattle.cells.specs.Walking.{cell_at, number_at, turned, path_to}
 use Rattle.cells.specs.Pruning.{take_out}
 use Rattle.cells.specs.Trees.{In, Reach, Held, Room}
@@ -130,3 +130,16 @@ pub record Holds (cs : List Cell) (ks : List (List ℕ)) : Type 0 where
 -- the cells in use are one more than the different non-empty beginnings of the held paths, in an array of two cells or more
 abbrev pub Counting : Type 0
 Counting = (cs : List Cell) (is : List ℕ) (ks : List (List ℕ)) → 1 < length cs → Sound cs is → Holds cs ks → in_use cs ≡ 1 + length (beginnings ks)
+
+-- a cell that is counted as in use is not free, and any other is
+pub record Uses (cs : List Cell) (t : ℕ) : Type 0 where
+  pub used : 0 < parent cs t → Free cs t → ⊥
+  pub free : parent cs t ≡ 0 → Free cs t
+
+-- of each cell of sound cells
+abbrev pub Using : Type 0
+Using = (cs : List Cell) (is : List ℕ) (t : ℕ) → Sound cs is → t < length cs → Uses cs t
+
+-- fewer than two cells have no place for any path, and none of them is in use
+abbrev pub Short : Type 0
+Short = (cs : List Cell) (is p : List ℕ) (n : ℕ) → length cs < 2 → (enter cs is p n ≡ None) × (in_use cs ≡ 0)

@@ -5,7 +5,7 @@
 // docs/CELLS.md tells, and the contracts below are the theorems about them.
 #![tactic(auto)]
 
-ghost use Rattle.cells.specs.Laws.{Starting, Unused, Walking, Climbing, Indexing, Counting};
+ghost use Rattle.cells.specs.Laws.{Starting, Unused, Walking, Climbing, Indexing, Counting, Using, Short};
 ghost use Rattle.cells.specs.Laws.{Searching, Relocating, Entering, Moving, Undoing, TakingBack, Taking};
 ghost use Rattle.cells.specs.Examples.{Examples};
 
@@ -34,6 +34,8 @@ pub fn reading_laws()
     ensures climbing { Climbing }
     ensures indexing { Indexing }
     ensures counting { Counting }
+    ensures using { Using }
+    ensures short { Short }
 {}
 
 // What a change does: the search finds the lowest base; when a family moves, nothing held changes;

@@ -26,10 +26,10 @@ abbrev pub RollLeaves : List (List ℕ) → List ℕ → List (List ℕ) → Boo
 RollLeaves before word after true = after ≡ before ++ word ∷ []
 RollLeaves before word after false = after ≡ before
 
-pub roll_leaves : {L : Type 0} (roll : L → List (List ℕ)) (sound : L → Type 0) (enters : L → List ℕ → L → Type 0) (s : L) (word : List ℕ) (t : L) (b : Bool)
-    → EnterLeaves roll sound enters s word t b → RollLeaves (roll s) word (roll t) b
-roll_leaves roll sound enters s word t true leaves = leaves.1
-roll_leaves roll sound enters s word t false leaves = ap roll leaves
+pub roll_leaves : {L : Type 0} (roll : L → List (List ℕ)) (enters : L → List ℕ → L → Type 0) (s : L) (word : List ℕ) (t : L) (b : Bool)
+    → EnterLeaves roll enters s word t b → RollLeaves (roll s) word (roll t) b
+roll_leaves roll enters s word t true leaves = leaves.1
+roll_leaves roll enters s word t false leaves = ap roll leaves
 
 module _ {S : Type 0} (spelling : S → List ℕ) (before : List (List ℕ)) (room : Bool) (word : List S) where
   -- a held number is at most the count, a new one above it
@@ -116,28 +116,28 @@ spelled_slice spelling word labels slice whole answer bounds =
     w = spelled spelling word
 
 -- what the call says, from what the list said
-module _ {S L : Type 0} (spelling : S → List ℕ) (roll : L → List (List ℕ)) (sound : L → Type 0) (room : L → List ℕ → Bool) (enters : L → List ℕ → L → Type 0)
+module _ {S L : Type 0} (spelling : S → List ℕ) (roll : L → List (List ℕ)) (room : L → List ℕ → Bool) (enters : L → List ℕ → L → Type 0)
     (s : L) (word : List S) (t : L) where
   pub record Told (x : Result Entry Refusal) : Type 0 where
-    pub answer : sound s → x ≡ entry_answer spelling (roll s) (room s (spelled spelling word)) word
-    pub after : sound s → EnterLeaves roll sound enters s (spelled spelling word) t (word_sized word && is_new (roll s) (room s (spelled spelling word)) (spelled spelling word))
-    pub numbers : sound s → KeepsNumbers spelling (roll s) word (roll t) x
+    pub answer : x ≡ entry_answer spelling (roll s) (room s (spelled spelling word)) word
+    pub after : EnterLeaves roll enters s (spelled spelling word) t (word_sized word && is_new (roll s) (room s (spelled spelling word)) (spelled spelling word))
+    pub numbers : KeepsNumbers spelling (roll s) word (roll t) x
 
   pub told : WordsApart spelling → (slice : List ℕ) → Spelled spelling word slice → (count : ℕ) (r : Result ℕ ListFault)
-      → (sound s → count ≡ length (roll s)) → (sound s → r ≡ enter_answer (roll s) (room s slice) slice)
-      → (sound s → EnterLeaves roll sound enters s slice t (is_new (roll s) (room s slice) slice))
+      → count ≡ length (roll s) → r ≡ enter_answer (roll s) (room s slice) slice
+      → EnterLeaves roll enters s slice t (is_new (roll s) (room s slice) slice)
       → (x : Result Entry Refusal) → x ≡ entry_from count r → Told x
   told apart slice fit count r counted answered left x from =
       let w = spelled spelling word in
-      let answer : sound s → x ≡ entry_answer spelling (roll s) (room s w) word = λ ok.
-      from ∙ entry_is spelling (roll s) (room s w) word fit.sized fit.labels count (counted ok) r
-      (subst (λ (z : List ℕ). r ≡ enter_answer (roll s) (room s z) z) fit.same (answered ok)) in
-      let leaves : sound s → EnterLeaves roll sound enters s w t (is_new (roll s) (room s w) w) = λ ok.
-      subst (λ (z : List ℕ). EnterLeaves roll sound enters s z t (is_new (roll s) (room s z) z)) fit.same (left ok) in
+      let answer : x ≡ entry_answer spelling (roll s) (room s w) word =
+      from ∙ entry_is spelling (roll s) (room s w) word fit.sized fit.labels count counted r
+      (subst (λ (z : List ℕ). r ≡ enter_answer (roll s) (room s z) z) fit.same answered) in
+      let leaves : EnterLeaves roll enters s w t (is_new (roll s) (room s w) w) =
+      subst (λ (z : List ℕ). EnterLeaves roll enters s z t (is_new (roll s) (room s z) z)) fit.same left in
       record {
         answer = answer;
-        after = λ ok. subst (λ (b : Bool). EnterLeaves roll sound enters s w t (b && is_new (roll s) (room s w) w)) (sym fit.sized) (leaves ok);
-        numbers = λ ok.
+        after = subst (λ (b : Bool). EnterLeaves roll enters s w t (b && is_new (roll s) (room s w) w)) (sym fit.sized) leaves;
+        numbers =
             keeps_numbers spelling (roll s) (room s w) word apart fit.sized fit.labels (roll t)
-            (roll_leaves roll sound enters s w t (is_new (roll s) (room s w) w) (leaves ok)) x (answer ok);
+            (roll_leaves roll enters s w t (is_new (roll s) (room s w) w) leaves) x answer;
       }

@@ -7,7 +7,7 @@
 ghost use Rattle.std.specs.Prelude.{◌≡◌, ◌≤◌, true, ◌&&◌, length, Some};
 ghost use Rattle.std.specs.Option.{option_map};
 ghost use Rattle.lexicon.specs.Answers.{is_new, EnterLeaves};
-ghost use Rattle.lexicon.specs.Rolls.{numbered, word_of};
+ghost use Rattle.lexicon.specs.Rolls.{numbered, word_of, Lawful};
 ghost use Rattle.script.specs.Words.{word_sized, spelled};
 ghost use Rattle.entry.specs.Entries.{entry_answer, KeepsNumbers, labels_in, line_of, asked_of, reply_of, reply_text};
 
@@ -27,9 +27,9 @@ pub enum Entry {
 // refused, then a new word for which the list has no room; the list is then as it was.
 // Whatever comes, no word that the list had gets another number.
 pub fn enter_word<S: Script, L: GrowingList>(list: &mut L, word: &[S]) -> Result<Entry, Refusal>
-    ensures answer { L.ReadableList.sound list.old → result ≡ entry_answer S.Script.spelling (L.ReadableList.roll list.old) (L.GrowingList.room list.old (spelled S.Script.spelling word.now)) word.now }
-    ensures after { L.ReadableList.sound list.old → EnterLeaves L.ReadableList.roll L.ReadableList.sound L.GrowingList.enters list.old (spelled S.Script.spelling word.now) list.new (word_sized word.now && is_new (L.ReadableList.roll list.old) (L.GrowingList.room list.old (spelled S.Script.spelling word.now)) (spelled S.Script.spelling word.now)) }
-    ensures numbers { L.ReadableList.sound list.old → KeepsNumbers S.Script.spelling (L.ReadableList.roll list.old) word.now (L.ReadableList.roll list.new) result }
+    ensures answer { result ≡ entry_answer S.Script.spelling (L.ReadableList.roll list.old) (L.GrowingList.room list.old (spelled S.Script.spelling word.now)) word.now }
+    ensures after { EnterLeaves L.ReadableList.roll L.GrowingList.enters list.old (spelled S.Script.spelling word.now) list.new (word_sized word.now && is_new (L.ReadableList.roll list.old) (L.GrowingList.room list.old (spelled S.Script.spelling word.now)) (spelled S.Script.spelling word.now)) }
+    ensures numbers { KeepsNumbers S.Script.spelling (L.ReadableList.roll list.old) word.now (L.ReadableList.roll list.new) result }
 {
     let labels = spell_word(word)?;
     let before = list.count();
@@ -44,8 +44,9 @@ pub fn enter_word<S: Script, L: GrowingList>(list: &mut L, word: &[S]) -> Result
 // How many labels the word of a number has; 0 where no word has the number. A list spells into an
 // output that it is lent: a rule of the project.
 fn labels_of<L: ReadableList>(list: &L, number: u16) -> usize
+    requires { Lawful (L.ReadableList.roll list.now) }
     ensures few { result ≤ 128 }
-    ensures labels { L.ReadableList.sound list.now → numbered (L.ReadableList.roll list.now) number ≡ true → result ≡ length (word_of (L.ReadableList.roll list.now) number) }
+    ensures labels { numbered (L.ReadableList.roll list.now) number ≡ true → result ≡ length (word_of (L.ReadableList.roll list.now) number) }
 {
     let mut word = [0u8; 128];
     list.spell(number, &mut word).unwrap_or(0)
@@ -53,7 +54,7 @@ fn labels_of<L: ReadableList>(list: &L, number: u16) -> usize
 
 // How many labels the words of the list have together.
 pub fn labels_held<L: ReadableList>(list: &L) -> usize
-    ensures { L.ReadableList.sound list.now → result ≡ labels_in (L.ReadableList.roll list.now) }
+    ensures { result ≡ labels_in (L.ReadableList.roll list.now) }
 {
     // A loop: of a chain's `sum` the bound is not proved (tried).
     let mut labels = 0usize;

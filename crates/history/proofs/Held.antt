@@ -8,7 +8,7 @@ use Rattle.std.proofs.lemmas.Bool.{cases_eq, cases_Bool, both_ways, eqb-true, eq
 use Rattle.cells.specs.Trees.{In, Apart}
 use Rattle.cells.proofs.Basics.{no_some, some_same, some_is}
 use Rattle.cells.proofs.Pigeons.{in_kept, from_kept, apart_kept}
-use Rattle.lexicon.specs.Rolls.{number_of}
+use Rattle.lexicon.specs.Rolls.{number_of, Lawful}
 use Rattle.lexicon.proofs.Numbers.{number_some}
 use Rattle.link_table.specs.Tables.{found, coded, limit, numbers, Made, Put, Out}
 use Rattle.link_table.specs.declared.table.LinkTable.{LinkTable}
@@ -45,7 +45,7 @@ pub record Stands {S L R : Type 0} (K : Kit S L R) (l : L) (t : LinkTable) (rs :
 
 -- the entries es and the numbers us handed out are those that the state holds
 pub record Fits {S L R : Type 0} (K : Kit S L R) (es : List (Entry S R)) (us : List ℕ) (l : L) (t : LinkTable) (rs : List R) : Type 0 where
-  pub sound : K.sound l
+  pub roll : Lawful (K.roll l)
   -- each number has a record
   pub enough : limit t ≤ length rs
   -- each entry stands, and each triple of the table is an entry's
@@ -115,9 +115,9 @@ module _ {S L R : Type 0} (K : Kit S L R) where
         (grows e.x k.a k.x_number ∙ sym k.x_number) (grows e.y k.b k.y_number ∙ sym k.y_number) refl
 
     -- so what the state held it holds
-    pub grown : {es : List (Entry S R)} {us : List ℕ} {t : LinkTable} {rs : List R} → Fits K es us l t rs → K.sound l' → Fits K es us l' t rs
-    grown {es} {us} {t} {rs} F sound = record {
-      sound = sound;
+    pub grown : {es : List (Entry S R)} {us : List ℕ} {t : LinkTable} {rs : List R} → Fits K es us l t rs → Lawful (K.roll l') → Fits K es us l' t rs
+    grown {es} {us} {t} {rs} F roll = record {
+      roll = roll;
       enough = F.enough;
       stands = λ e i.
           let h = F.stands e i in
@@ -130,9 +130,9 @@ module _ {S L R : Type 0} (K : Kit S L R) where
     }
 
   -- a new state holds no triple
-  pub new_fits : (l : L) (t : LinkTable) (rs : List R) (n k : ℕ) → K.sound l → Made n k (length rs) t → Fits K [] [] l t rs
-  new_fits l t rs n k sound made = record {
-    sound = sound;
+  pub new_fits : (l : L) (t : LinkTable) (rs : List R) (n k : ℕ) → Lawful (K.roll l) → Made n k (length rs) t → Fits K [] [] l t rs
+  new_fits l t rs n k roll made = record {
+    roll = roll;
     enough = omega (arith, made.limit_is, min-le_left (min (length rs) k) 1048575, min-le_left (length rs) k);
     stands = λ e i. absurd i;
     back = λ c u f. absurd (no_some u (sym (made.no_triple c) ∙ f));
@@ -192,7 +192,7 @@ module _ {S L R : Type 0} (K : Kit S L R) where
       -- the state holds the entry more
       pub put_fits : Fits K (entry_of x y q u r ∷ es) (u ∷ us) l t' (set rs (u - 1) r)
       put_fits = record {
-        sound = F.sound;
+        roll = F.roll;
         enough = omega (arith, length-set rs (u - 1) r, put.limit_same, F.enough);
         stands = put_stands;
         back = λ c v f.
@@ -230,7 +230,7 @@ module _ {S L R : Type 0} (K : Kit S L R) where
       -- the state holds these
       pub out_fits : Fits K left (filter (λ v. not (eqb v u)) us) l t' rs
       out_fits = record {
-        sound = F.sound;
+        roll = F.roll;
         enough = omega (arith, out.limit_same, F.enough);
         stands = out_stands;
         back = λ c v f.
@@ -276,7 +276,7 @@ module _ {S L R : Type 0} (K : Kit S L R) where
       -- the state holds the entries with the new record
       pub change_fits : Fits K (map (rewritten u r) es) us l t (set rs (u - 1) r)
       change_fits = record {
-        sound = F.sound;
+        roll = F.roll;
         enough = omega (arith, length-set rs (u - 1) r, F.enough);
         stands = λ e i. let k = map_in (rewritten u r) es e i in subst (Stands K l t (set rs (u - 1) r)) (sym k.2) (change_stands k.0 k.1);
         back = λ d v f.

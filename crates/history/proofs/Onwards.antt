@@ -9,21 +9,21 @@ use Rattle.history.specs.Kits.{Kit, State}
 use Rattle.history.specs.Calls.{Call, add, tie, delete, find, read, change, list, figures, Adds, Steps}
 use Rattle.history.specs.Runs.{anything, after}
 use Rattle.history.specs.Laws.{Onward}
-use Rattle.history.proofs.Runs.{sound_of, law_of}
+use Rattle.history.proofs.Runs.{law_of}
 
 -- what a list's own arrays hold may be left out
-leaves_any : {L : Type 0} (roll : L → List (List ℕ)) (sound : L → Type 0) (enters : L → List ℕ → L → Type 0) (s : L) (w : List ℕ) (t : L) (b : Bool)
-    → EnterLeaves roll sound enters s w t b → EnterLeaves roll sound anything s w t b
-leaves_any roll sound enters s w t true h = (tt, h.1, h.2)
-leaves_any roll sound enters s w t false h = h
+leaves_any : {L : Type 0} (roll : L → List (List ℕ)) (enters : L → List ℕ → L → Type 0) (s : L) (w : List ℕ) (t : L) (b : Bool)
+    → EnterLeaves roll enters s w t b → EnterLeaves roll anything s w t b
+leaves_any roll enters s w t true h = (tt, h.1, h.2)
+leaves_any roll enters s w t false h = h
 
 module _ {S L R : Type 0} (K : Kit S L R) (room : L → List ℕ → Bool) (enters : L → List ℕ → L → Type 0) where
   adds_any : (s : State L R) (x y : List S) (q : ℕ) (r : R) (n : Result Link Refusal) (t : State L R) → Adds K room enters s x y q r n t → Adds K room anything s x y q r n t
   adds_any s x y q r n t a = record {
     mid = a.mid;
     last = a.last;
-    x_entered = leaves_any K.roll K.sound enters _ _ _ _ a.x_entered;
-    y_entered = leaves_any K.roll K.sound enters _ _ _ _ a.y_entered;
+    x_entered = leaves_any K.roll enters _ _ _ _ a.x_entered;
+    y_entered = leaves_any K.roll enters _ _ _ _ a.y_entered;
     result = a.result;
   }
 
@@ -37,8 +37,8 @@ module _ {S L R : Type 0} (K : Kit S L R) (room : L → List ℕ → Bool) (ente
   steps_any s out (list x q) n t out' h = h
   steps_any s out figures n t out' h = h
 
-  -- what a call says of a sound list, it says of every history that led to it
-  pub onward : (s : State L R) (out : List LinkRow) (c : Call S R) (n : Result (Reply R) Refusal) (t : State L R) (out' : List LinkRow) → (K.sound s.list → Steps K room enters s out c n t out') → Onward K s c n t
+  -- what a call says of a state, it says of every history that led to it
+  pub onward : (s : State L R) (out : List LinkRow) (c : Call S R) (n : Result (Reply R) Refusal) (t : State L R) (out' : List LinkRow) → Steps K room enters s out c n t out' → Onward K s c n t
   onward s out c n t out' does h run =
-      let next = after room out out' run (steps_any s out c n t out' (does (sound_of K run))) in
+      let next = after room out out' run (steps_any s out c n t out' does) in
       (next, law_of K next)

@@ -1,4 +1,4 @@
--- What holds after every run of calls: the list is sound, and the law.
+-- What holds after every run of calls: the law.
 use Rattle.std.proofs.Common.{◌≡◌, ℕ, ◌+◌, ◌-◌, ◌≤◌, Bool, true, false, cond, eqb, List, [], ◌∷◌, map, length, is_some, is_ok, Some, None, Ok, Err, Option, sym, refl, ap, ◌∙◌, subst, arith}
 use Rattle.std.specs.List.{slice_get}
 use Rattle.std.proofs.lemmas.Bool.{eqb-true, eq-eqb, cond-false}
@@ -188,16 +188,13 @@ module _ {S L R : Type 0} (K : Kit S L R) {es : List (Entry S R)} {us : List ℕ
     open_number = number_open K H.fits;
   }
 
--- after every run the list is sound
-pub sound_of : {S L R : Type 0} (K : Kit S L R) {h : History S R} {s : State L R} → Reached K h s → K.sound s.list
-sound_of K run = (held_of K run).fits.sound
-
--- and the law holds
+-- after every run the law holds
 pub law_of : {S L R : Type 0} (K : Kit S L R) {h : History S R} {s : State L R} → Reached K h s → Law K h s
 law_of K {h} {s} run =
     let H = held_of K run in
     let F = H.fits in
     record {
+      roll = F.roll;
       numbers = F.numbers;
       unlike = F.unlike;
       figure = counts K F;

@@ -5,7 +5,7 @@ use Rattle.std.proofs.lemmas.Bool.{cases_Bool, and_from, not-false, not_from_fal
 use Rattle.refusal.specs.declared.Refusal.{Refusal}
 use Rattle.cells.proofs.Basics.{some_is}
 use Rattle.lexicon.specs.Answers.{EnterLeaves}
-use Rattle.lexicon.specs.Rolls.{number_of}
+use Rattle.lexicon.specs.Rolls.{number_of, Lawful}
 use Rattle.lexicon.proofs.Numbers.{number_from_kept, number_from_last}
 use Rattle.link_table.specs.Tables.{coded, all_held, Out}
 use Rattle.link_table.specs.declared.table.LinkTable.{LinkTable}
@@ -21,18 +21,18 @@ use Rattle.history.proofs.Options.{none_from, none_applies, applies_none}
 use Rattle.history.proofs.Held.{Known, Fits, Grows, grown, new_fits, counts, put_fits, out_fits, change_fits}
 
 -- a word list that was asked to enter a word has its words with their numbers
-pub grows_from : {S L R : Type 0} (K : Kit S L R) (enters : L → List ℕ → L → Type 0) (l l' : L) (x : List S) (b : Bool) → EnterLeaves K.roll K.sound enters l (labels_of K x) l' b → Grows K l l'
+pub grows_from : {S L R : Type 0} (K : Kit S L R) (enters : L → List ℕ → L → Type 0) (l l' : L) (x : List S) (b : Bool) → EnterLeaves K.roll enters l (labels_of K x) l' b → Grows K l l'
 grows_from K enters l l' x true e y n h = ap (λ (roll : List (List ℕ)). number_of roll (labels_of K y)) e.1 ∙ number_from_kept 1 (K.roll l) (labels_of K x) (labels_of K y) n h
 grows_from {S} {L} K enters l l' x false e y n h = ap (λ (z : L). number_in K z y) e ∙ h
 
--- and keeps what it kept true of itself
-pub sound_from : {S L R : Type 0} (K : Kit S L R) (enters : L → List ℕ → L → Type 0) (l l' : L) (x : List S) (b : Bool) → EnterLeaves K.roll K.sound enters l (labels_of K x) l' b → K.sound l → K.sound l'
-sound_from K enters l l' x true e s = e.2
-sound_from K enters l l' x false e s = subst K.sound (sym e) s
+-- and a lawful roll
+pub roll_from : {S L R : Type 0} (K : Kit S L R) (enters : L → List ℕ → L → Type 0) (l l' : L) (x : List S) (b : Bool) → EnterLeaves K.roll enters l (labels_of K x) l' b → Lawful (K.roll l) → Lawful (K.roll l')
+roll_from K enters l l' x true e s = e.2
+roll_from {S} {L} K enters l l' x false e s = subst (λ (z : L). Lawful (K.roll z)) (sym e) s
 
 -- and, unless the word lacks room, has the word
 pub known_from : {S L R : Type 0} (K : Kit S L R) (room : L → List ℕ → Bool) (enters : L → List ℕ → L → Type 0) (l l' : L) (x : List S) (go : Bool) →
-    EnterLeaves K.roll K.sound enters l (labels_of K x) l' (go && grows K room l x) → go ≡ true → lacks K room l x ≡ false → (a : ℕ) × (number_in K l' x ≡ Some a)
+    EnterLeaves K.roll enters l (labels_of K x) l' (go && grows K room l x) → go ≡ true → lacks K room l x ≡ false → (a : ℕ) × (number_in K l' x ≡ Some a)
 known_from K room enters l l' x go e on fits =
     ⊎_elim
     (λ has. let a = some_is (number_in K l x) has in (a.0, grows_from K enters l l' x (go && grows K room l x) e x a.0 a.1))
@@ -41,7 +41,7 @@ known_from K room enters l l' x go e on fits =
     let is_new : none (number_in K l x) ≡ true = not_from_false (is_some (number_in K l x)) no in
     let free : room l (labels_of K x) ≡ true = not-false (room l (labels_of K x)) (sym (ap (λ (b : Bool). b && not (room l (labels_of K x))) is_new) ∙ fits) in
     let all = and_from go (grows K room l x) on (and_from (none (number_in K l x)) (room l (labels_of K x)) is_new free) in
-    let entered = subst (EnterLeaves K.roll K.sound enters l (labels_of K x) l') all e in
+    let entered = subst (EnterLeaves K.roll enters l (labels_of K x) l') all e in
     (1 + length (K.roll l), ap (λ (roll : List (List ℕ)). number_of roll (labels_of K x)) entered.1 ∙ number_from_last 1 (K.roll l) (labels_of K x) absent))
     (cases_Bool (is_some (number_in K l x)))
 
@@ -84,7 +84,7 @@ module _ {S L R : Type 0} (K : Kit S L R) {es : List (Entry S R)} {us : List ℕ
       → Held K es us p d (state_of k.last s.table s.records)
   add_grown room enters s t x y q r m H k = record {
     fits = grown K s.list k.last (λ z n h. grows_from K enters k.mid k.last y _ k.y_entered z n (grows_from K enters s.list k.mid x _ k.x_entered z n h)) H.fits
-        (sound_from K enters k.mid k.last y _ k.y_entered (sound_from K enters s.list k.mid x _ k.x_entered H.fits.sound));
+        (roll_from K enters k.mid k.last y _ k.y_entered (roll_from K enters s.list k.mid x _ k.x_entered H.fits.roll));
     tally = H.tally;
   }
 
@@ -158,5 +158,5 @@ module _ {S L R : Type 0} (K : Kit S L R) {es : List (Entry S R)} {us : List ℕ
 
 -- every run
 pub held_of : {S L R : Type 0} (K : Kit S L R) {h : History S R} {s : State L R} → Reached K h s → Held K (present K h) (handed h) (puts h) (deletes h) s
-held_of K (new {l} {t} {rs} {n} {k} sound made) = record { fits = new_fits K l t rs n k sound made; tally = refl }
+held_of K (new {l} {t} {rs} {n} {k} roll made) = record { fits = new_fits K l t rs n k roll made; tally = refl }
 held_of K (after {h} {s} {t} {c} {n} room out out' before steps) = step_held K room s t out out' c n (held_of K before) steps

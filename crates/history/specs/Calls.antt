@@ -80,8 +80,8 @@ module _ {S L R : Type 0} (K : Kit S L R) where
     -- the list after X, and after Y
     pub mid : L
     pub last : L
-    pub x_entered : EnterLeaves K.roll K.sound enters s.list (labels_of K x) mid (fine x y q r && grows room s.list x)
-    pub y_entered : EnterLeaves K.roll K.sound enters mid (labels_of K y) last ((fine x y q r && not (lacks room s.list x)) && grows room mid y)
+    pub x_entered : EnterLeaves K.roll enters s.list (labels_of K x) mid (fine x y q r && grows room s.list x)
+    pub y_entered : EnterLeaves K.roll enters mid (labels_of K y) last ((fine x y q r && not (lacks room s.list x)) && grows room mid y)
     pub result : Decided (refusal_of_add room s.list mid last s.table x y q r) (state_of last s.table s.records) n t (LinkMade (state_of last s.table s.records) x y q r n t)
 
   -- delete: the triple's path is pruned, and its number answered; list and records stay

@@ -15,14 +15,12 @@ pub record Kit (S L R : Type 0) : Type 1 where
   pub spelling : S → List ℕ
   -- the words of a list, spelled, in the order of their numbers
   pub roll : L → List (List ℕ)
-  -- what a list keeps true of itself
-  pub sound : L → Type 0
   -- whether a record is sound
   pub good : R → Bool
 
 -- the meaning that a script, a list and a record type give
 abbrev pub kit_of : {S A L R : Type 0} → Scripts S A → Lists L → Records R → Kit S L R
-kit_of s l r = record { spelling = s.spelling; roll = l.roll; sound = l.sound; good = r.sound }
+kit_of s l r = record { spelling = s.spelling; roll = l.roll; good = r.sound }
 
 -- a store: its word list, its link table and its records
 pub record State (L R : Type 0) : Type 0 where

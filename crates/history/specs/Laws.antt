@@ -1,6 +1,7 @@
 -- The law: what holds after every run of calls.
 use Rattle.std.specs.Prelude.{◌≡◌, ℕ, zero, suc, ◌+◌, ◌≤◌, Bool, true, false, cond, ◌&&◌, List, [], ◌∷◌, map, length, is_ok, Some, None, Ok, Err, filter, Option, Result, ◌==◌, ◌≢◌}
 use Rattle.refusal.specs.declared.Refusal.{Refusal}
+use Rattle.lexicon.specs.Rolls.{Lawful}
 use Rattle.cells.specs.Counting.{beginnings}
 use Rattle.cells.specs.Trees.{In, Apart}
 use Rattle.cells.specs.Walking.{number_at}
@@ -81,6 +82,8 @@ module _ {S L R : Type 0} (K : Kit S L R) where
     pub open_number : (length es ≢ limit s.table) → (u : ℕ) × (1 ≤ u) × (u ≤ limit s.table) × (has_link es u ≡ false)
 
   pub record Law (h : History S R) (s : State L R) : Type 0 where
+    -- the words of the list are at most 65,535, each of 1 to 128 labels, no two alike
+    pub roll : Lawful (K.roll s.list)
     -- the link numbers handed out and not since taken back are those of the present triples, no two alike
     pub numbers : handed h ≡ map (λ e. e.link) (present K h)
     pub unlike : Apart (handed h)

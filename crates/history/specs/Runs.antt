@@ -2,6 +2,7 @@
 use Rattle.std.specs.Prelude.{ℕ, suc, Bool, true, false, cond, not, ◌&&◌, List, [], ◌∷◌, map, length, is_ok, Some, None, Ok, Err, filter, Option, Result, ◌==◌}
 use Rattle.std.specs.Str.{bytes_eq}
 use Rattle.refusal.specs.declared.Refusal.{Refusal}
+use Rattle.lexicon.specs.Rolls.{Lawful}
 use Rattle.link_table.specs.Tables.{Made}
 use Rattle.link_table.specs.declared.table.LinkTable.{LinkTable}
 use Rattle.listing.specs.declared.row.LinkRow.{LinkRow}
@@ -82,16 +83,34 @@ abbrev pub given : {S R : Type 0} → ℕ → R → Bool → List (Entry S R) �
 given u r false es = es
 given u r true es = map (rewritten u r) es
 
+-- what a call does to the present triples: nothing, or a triple is put in, taken out, or given another record
+pub data Effect (S R : Type 0) : Type 0 where
+  quiet : Effect S R
+  puts_in : (x y : List S) (q : ℕ) (r : R) → Effect S R
+  takes_out : (x y : List S) (q : ℕ) → Effect S R
+  gives : (u : ℕ) (r : R) → Effect S R
+
+-- what each call does, if it is accepted: the one place where a further call says so
+abbrev pub effect_of : {S R : Type 0} → Call S R → Effect S R
+effect_of (add x y q r) = puts_in x y q r
+effect_of (tie x y q r) = puts_in x y q r
+effect_of (delete x y q) = takes_out x y q
+effect_of (find x y q) = quiet
+effect_of (read u) = quiet
+effect_of (change u r) = gives u r
+effect_of (list x q) = quiet
+effect_of figures = quiet
+
+-- the triples after an effect that was answered n
+abbrev pub present_by : {S L R : Type 0} → Kit S L R → Effect S R → Result (Reply R) Refusal → List (Entry S R) → List (Entry S R)
+present_by K quiet n es = es
+present_by K (puts_in x y q r) n es = put_in x y q r (handed_by n) es
+present_by K (takes_out x y q) n es = taken_out K x y q (is_ok n) es
+present_by K (gives u r) n es = given u r (is_ok n) es
+
 -- the triples after a call that was answered n
 abbrev pub present_after : {S L R : Type 0} → Kit S L R → Call S R → Result (Reply R) Refusal → List (Entry S R) → List (Entry S R)
-present_after K (add x y q r) n es = put_in x y q r (handed_by n) es
-present_after K (tie x y q r) n es = put_in x y q r (handed_by n) es
-present_after K (delete x y q) n es = taken_out K x y q (is_ok n) es
-present_after K (find x y q) n es = es
-present_after K (read u) n es = es
-present_after K (change u r) n es = given u r (is_ok n) es
-present_after K (list x q) n es = es
-present_after K figures n es = es
+present_after K c n es = present_by K (effect_of c) n es
 
 -- the triples that are present after a history, by its arguments and answers alone
 abbrev pub present : {S L R : Type 0} → Kit S L R → History S R → List (Entry S R)
@@ -108,16 +127,16 @@ abbrev pub take_back : Option ℕ → List ℕ → List ℕ
 take_back None us = us
 take_back (Some u) us = filter (λ v. not (v == u)) us
 
+-- the link numbers after an effect that was answered n
+abbrev pub handed_by_effect : {S R : Type 0} → Effect S R → Result (Reply R) Refusal → List ℕ → List ℕ
+handed_by_effect quiet n us = us
+handed_by_effect (puts_in x y q r) n us = hand_out (handed_by n) us
+handed_by_effect (takes_out x y q) n us = take_back (taken_by n) us
+handed_by_effect (gives u r) n us = us
+
 -- the link numbers after a call that was answered n
 abbrev pub handed_after : {S R : Type 0} → Call S R → Result (Reply R) Refusal → List ℕ → List ℕ
-handed_after (add x y q r) n us = hand_out (handed_by n) us
-handed_after (tie x y q r) n us = hand_out (handed_by n) us
-handed_after (delete x y q) n us = take_back (taken_by n) us
-handed_after (find x y q) n us = us
-handed_after (read u) n us = us
-handed_after (change u r) n us = us
-handed_after (list x q) n us = us
-handed_after figures n us = us
+handed_after c n us = handed_by_effect (effect_of c) n us
 
 -- the link numbers handed out and not since taken back, the last one first
 abbrev pub handed : {S R : Type 0} → History S R → List ℕ
@@ -130,15 +149,14 @@ one_if true k = suc k
 one_if false k = k
 
 -- one more, if the call was an accepted add or tie
+abbrev pub put_by_effect : {S R : Type 0} → Effect S R → Bool → ℕ → ℕ
+put_by_effect quiet b k = k
+put_by_effect (puts_in x y q r) b k = one_if b k
+put_by_effect (takes_out x y q) b k = k
+put_by_effect (gives u r) b k = k
+
 abbrev pub put_after : {S R : Type 0} → Call S R → Bool → ℕ → ℕ
-put_after (add x y q r) b k = one_if b k
-put_after (tie x y q r) b k = one_if b k
-put_after (delete x y q) b k = k
-put_after (find x y q) b k = k
-put_after (read u) b k = k
-put_after (change u r) b k = k
-put_after (list x q) b k = k
-put_after figures b k = k
+put_after c b k = put_by_effect (effect_of c) b k
 
 -- how many adds and ties were accepted
 abbrev pub puts : {S R : Type 0} → History S R → ℕ
@@ -146,15 +164,14 @@ puts [] = 0
 puts (e ∷ h) = put_after e.call (is_ok e.answer) (puts h)
 
 -- one more, if the call was an accepted delete
+abbrev pub delete_by_effect : {S R : Type 0} → Effect S R → Bool → ℕ → ℕ
+delete_by_effect quiet b k = k
+delete_by_effect (puts_in x y q r) b k = k
+delete_by_effect (takes_out x y q) b k = one_if b k
+delete_by_effect (gives u r) b k = k
+
 abbrev pub delete_after : {S R : Type 0} → Call S R → Bool → ℕ → ℕ
-delete_after (add x y q r) b k = k
-delete_after (tie x y q r) b k = k
-delete_after (delete x y q) b k = one_if b k
-delete_after (find x y q) b k = k
-delete_after (read u) b k = k
-delete_after (change u r) b k = k
-delete_after (list x q) b k = k
-delete_after figures b k = k
+delete_after c b k = delete_by_effect (effect_of c) b k
 
 -- how many deletes were accepted
 abbrev pub deletes : {S R : Type 0} → History S R → ℕ
@@ -168,5 +185,5 @@ anything l w l' = Unit {0}
 -- the histories that lead from a new store to a state. A store is new when its link table was made for its records; its list
 -- may hold words. Each call keeps its rule, refused ones too, whichever words have room and whatever the list's own arrays hold
 pub data Reached {S L R : Type 0} (K : Kit S L R) : History S R → State L R → Type 0 where
-  new : {l : L} {t : LinkTable} {rs : List R} {n k : ℕ} → K.sound l → Made n k (length rs) t → Reached K [] (state_of l t rs)
+  new : {l : L} {t : LinkTable} {rs : List R} {n k : ℕ} → Lawful (K.roll l) → Made n k (length rs) t → Reached K [] (state_of l t rs)
   after : {h : History S R} {s t : State L R} {c : Call S R} {n : Result (Reply R) Refusal} (room : L → List ℕ → Bool) (out out' : List LinkRow) → Reached K h s → Steps K room anything s out c n t out' → Reached K (event_of c n ∷ h) t

@@ -2,7 +2,7 @@
 use Rattle.std.proofs.Common.{◌≡◌, ℕ, ◌+◌, Bool, true, false, not, ◌&&◌, List, [], ◌∷◌, ◌++◌, length, is_some, None, Ok, Err, Option, sym, ap, ◌∙◌, subst}
 use Rattle.std.proofs.lemmas.Bool.{cond-true, and_from, and_right}
 use Rattle.refusal.specs.declared.ListFault.TheVariants.{WordLength, NoRoom}
-use Rattle.lexicon.specs.Rolls.{label_sized, number_of}
+use Rattle.lexicon.specs.Rolls.{label_sized, number_of, Lawful}
 use Rattle.lexicon.specs.Answers.{held_or_next, enter_answer, is_new, EnterLeaves}
 
 -- a word of the right length that the roll lacks, with room
@@ -18,9 +18,9 @@ module _ (roll : List (List ℕ)) (room : Bool) (word : List ℕ) (sized : label
       (and_from (not (is_some (number_of roll word))) room (ap (λ (o : Option ℕ). not (is_some o)) absent) free)
 
 -- what a new word leaves
-pub leaves_new : {L : Type 0} (roll : L → List (List ℕ)) (sound : L → Type 0) (enters : L → List ℕ → L → Type 0) (s : L) (word : List ℕ) (t : L) (b : Bool)
-    → b ≡ true → enters s word t → roll t ≡ roll s ++ word ∷ [] → sound t → EnterLeaves roll sound enters s word t b
-leaves_new roll sound enters s word t b new arrays grown kept = subst (λ (z : Bool). EnterLeaves roll sound enters s word t z) (sym new) (arrays, grown, kept)
+pub leaves_new : {L : Type 0} (roll : L → List (List ℕ)) (enters : L → List ℕ → L → Type 0) (s : L) (word : List ℕ) (t : L) (b : Bool)
+    → b ≡ true → enters s word t → roll t ≡ roll s ++ word ∷ [] → Lawful (roll t) → EnterLeaves roll enters s word t b
+leaves_new roll enters s word t b new arrays grown kept = subst (λ (z : Bool). EnterLeaves roll enters s word t z) (sym new) (arrays, grown, kept)
 
 -- a word of the right length that the roll lacks, without room
 module _ (roll : List (List ℕ)) (room : Bool) (word : List ℕ) (sized : label_sized word ≡ true) (absent : number_of roll word ≡ None) (full : room ≡ false) where
@@ -33,6 +33,6 @@ module _ (roll : List (List ℕ)) (room : Bool) (word : List ℕ) (sized : label
   full_is = and_right (label_sized word) (not (is_some (number_of roll word)) && room) (and_right (not (is_some (number_of roll word))) room full)
 
 -- what a word that is not entered leaves
-pub leaves_same : {L : Type 0} (roll : L → List (List ℕ)) (sound : L → Type 0) (enters : L → List ℕ → L → Type 0) (s : L) (word : List ℕ) (t : L) (b : Bool)
-    → b ≡ false → t ≡ s → EnterLeaves roll sound enters s word t b
-leaves_same roll sound enters s word t b old same = subst (λ (z : Bool). EnterLeaves roll sound enters s word t z) (sym old) same
+pub leaves_same : {L : Type 0} (roll : L → List (List ℕ)) (enters : L → List ℕ → L → Type 0) (s : L) (word : List ℕ) (t : L) (b : Bool)
+    → b ≡ false → t ≡ s → EnterLeaves roll enters s word t b
+leaves_same roll enters s word t b old same = subst (λ (z : Bool). EnterLeaves roll enters s word t z) (sym old) same

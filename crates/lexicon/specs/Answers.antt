@@ -3,7 +3,7 @@ use Rattle.std.specs.Prelude.{◌≡◌, ℕ, ◌+◌, Bool, true, false, cond, 
 use Rattle.refusal.specs.declared.ListFault.{ListFault}
 use Rattle.refusal.specs.declared.ListFault.TheVariants.{WordLength, UnknownWord, NoRoom, OutputTooShort}
 use Rattle.output.specs.Written.{fits, written}
-use Rattle.lexicon.specs.Rolls.{label_sized, number_of, word_of, numbered}
+use Rattle.lexicon.specs.Rolls.{label_sized, number_of, word_of, numbered, Lawful}
 
 -- finding a word: its number or none; a spelling of the wrong length is refused
 abbrev pub find_answer : List (List ℕ) → List ℕ → Result (Option ℕ) ListFault
@@ -32,7 +32,7 @@ enter_answer roll room word = cond (label_sized word) (held_or_next (number_of r
 abbrev pub is_new : List (List ℕ) → Bool → List ℕ → Bool
 is_new roll room word = label_sized word && (not (is_some (number_of roll word)) && room)
 
--- the list t after s was asked to enter the word: with the new word last, or the very same list
-abbrev pub EnterLeaves : {L : Type 0} → (L → List (List ℕ)) → (L → Type 0) → (L → List ℕ → L → Type 0) → L → List ℕ → L → Bool → Type 0
-EnterLeaves roll sound enters s word t true = enters s word t × (roll t ≡ roll s ++ word ∷ []) × sound t
-EnterLeaves roll sound enters s word t false = t ≡ s
+-- the list t after s was asked to enter the word: with the new word last and a lawful roll, or the very same list
+abbrev pub EnterLeaves : {L : Type 0} → (L → List (List ℕ)) → (L → List ℕ → L → Type 0) → L → List ℕ → L → Bool → Type 0
+EnterLeaves roll enters s word t true = enters s word t × (roll t ≡ roll s ++ word ∷ []) × Lawful (roll t)
+EnterLeaves roll enters s word t false = t ≡ s

@@ -15,32 +15,23 @@ pub trait ReadableList {
     // The list's words, each spelled in labels, in the order of their numbers: the roll.
     ghost roll: { Self → List (List ℕ) };
 
-    // What a list has to keep true of itself beyond what its type already says. A list that has no
-    // more to keep gives the fact that always holds; what a call says, it says of a sound list.
-    ghost sound: { Self → Type 0 };
-
-    // How many words the list has.
+    // How many words the list has. The roll is lawful: at most 65,535 words, each of 1 to 128 labels,
+    // no two alike.
     fn count(&self) -> u16
-        ensures { sound self.now → result ≡ length (roll self.now) };
+        ensures count { result ≡ length (roll self.now) }
+        ensures lawful { Lawful (roll self.now) };
 
     // The number of a spelled word, or none where the list lacks it.
     // A spelling of no label or of more than 128 is refused.
     fn find(&self, word: &[u8]) -> Result<Option<u16>, ListFault>
-        ensures { sound self.now → result ≡ find_answer (roll self.now) word.now };
+        ensures { result ≡ find_answer (roll self.now) word.now };
 
     // Writes the word of a number from the start of the output and answers how many labels it has.
     // A number that no word has is refused, then an output that is too short; nothing is written then.
     fn spell(&self, number: u16, out: &mut [u8]) -> Result<usize, ListFault>
-        ensures answer { sound self.now → result ≡ word_answer (roll self.now) number out.old }
-        ensures output { sound self.now → out.new ≡ word_output (roll self.now) number out.old }
+        ensures answer { result ≡ word_answer (roll self.now) number out.old }
+        ensures output { out.new ≡ word_output (roll self.now) number out.old }
         ensures within { IfOk result (λ n. n ≤ length out.old) };
-
-    ghost lawful: { (s : Self) → sound s → Lawful (roll s) };
-}
-
-// A list of which every value is sound: what a call says of a sound list, it says of each.
-pub trait SoundList: ReadableList {
-    ghost always: { (s : Self) → Self.sound s };
 }
 
 pub trait GrowingList: ReadableList {
@@ -54,8 +45,8 @@ pub trait GrowingList: ReadableList {
     // word becomes the last. A spelling of no label or of more than 128 is refused, then a new word
     // for which there is no room; unless a new word is entered, the list stays as it was.
     fn enter(&mut self, word: &[u8]) -> Result<u16, ListFault>
-        ensures answer { Self.sound self.old → result ≡ enter_answer (Self.roll self.old) (room self.old word.now) word.now }
-        ensures after { Self.sound self.old → EnterLeaves Self.roll Self.sound enters self.old word.now self.new (is_new (Self.roll self.old) (room self.old word.now) word.now) };
+        ensures answer { result ≡ enter_answer (Self.roll self.old) (room self.old word.now) word.now }
+        ensures after { EnterLeaves Self.roll enters self.old word.now self.new (is_new (Self.roll self.old) (room self.old word.now) word.now) };
 }
 
 // The spelling has 1 to 128 labels.

@@ -1,4 +1,2 @@
 pub mod Cuts
 pub mod Plain
-pub mod Lists
-pub mod CutsLemmas

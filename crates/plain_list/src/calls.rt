@@ -3,11 +3,10 @@ ghost use Rattle.std.specs.Prelude.{◌≡◌, ◌<◌, true, [], ◌∷◌, ◌
 ghost use Rattle.lexicon.specs.Rolls.{number_of};
 ghost use Rattle.lexicon.specs.Answers.{is_new};
 ghost use Rattle.plain_list.specs.Plain.{roll_of, fits_free, room_of, Made, Appended};
-ghost use Rattle.plain_list.specs.Lists.{roll_lawful};
 
 use super::list::PlainList;
 use super::search;
-use lexicon::{GrowingList, ReadableList, SoundList, has_label_size, is_numbered};
+use lexicon::{GrowingList, ReadableList, has_label_size, is_numbered};
 use refusal::ListFault;
 
 // A list has at most as many words as a 16-bit number counts.
@@ -90,10 +89,6 @@ impl PlainList {
 impl ReadableList for PlainList {
     ghost roll = { roll_of };
 
-    ghost sound = { λ _. Unit {0} };
-
-    ghost lawful = { λ s _. roll_lawful s };
-
     fn count(&self) -> u16 {
         self.count as u16
     }
@@ -113,10 +108,6 @@ impl ReadableList for PlainList {
         let word = self.word_at(number as usize - 1);
         output::put(out, 0, word).ok_or(ListFault::OutputTooShort)
     }
-}
-
-impl SoundList for PlainList {
-    ghost always = { λ _. tt };
 }
 
 impl GrowingList for PlainList {

@@ -24,7 +24,7 @@ use Rattle.history.proofs.Options.{none_applies, applies_none}
 use Rattle.history.proofs.Held.{link_of, Fits, triple_from, same_link}
 use Rattle.history.proofs.Steps.{held_of}
 use Rattle.history.proofs.Listings.{rising_apart, row_same, listing_of}
-use Rattle.history.proofs.Runs.{held_is, sound_of}
+use Rattle.history.proofs.Runs.{held_is}
 use Rattle.store.specs.Links.{link_answer}
 use Rattle.share.specs.Rounding.{share_of}
 use Rattle.share.specs.Shares.{count_of, count_at, sum_at, present_in, share_answer}
@@ -121,16 +121,16 @@ module _ {S L : Type 0} (K : Kit S L Tally) (apart : WordsApart K.spelling) (l :
       )
 
   -- what the share says of every history that led to the state
-  pub share_law : (r : Result ℕ Refusal) → (K.sound l → r ≡ share_answer t records q (link_answer K l t x y q)) → ShareLaw K (state_of l t records) x y q r
+  pub share_law : (r : Result ℕ Refusal) → r ≡ share_answer t records q (link_answer K l t x y q) → ShareLaw K (state_of l t records) x y q r
   share_law r answer = record {
     shared = λ h run e i same.
         let F = (held_of K run).fits in
         let k = link_is F e i same in
-        answer (sound_of K run)
+        answer
         ∙ ap (share_answer t records q) k.0
         ∙ ap (λ (c : ℕ). Ok (share_of c (total_of eqb (present_in t records) (unwrap_or (number_in K l x) 0) q))) (count_is K F e i)
         ∙ ap (λ (n : ℕ). Ok (share_of e.kept.count n)) (same_total K F x q k.2.0 k.1 k.2.1);
     refused = λ h run.
         subst (λ (b : Bool). Unless (first (delete_refusals x y q (number_in K l x) (number_in K l y) b)) r) (held_is K (held_of K run).fits x y q)
-        (subst (Unless refusal) (sym (answer (sound_of K run))) (unless_share t records q refusal (link_in K l x y (unwrap_or (found t (triple_in K l x y q)) 0))));
+        (subst (Unless refusal) (sym answer) (unless_share t records q refusal (link_in K l x y (unwrap_or (found t (triple_in K l x y q)) 0))));
   }

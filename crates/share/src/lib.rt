@@ -36,7 +36,7 @@ pub fn share<S: Script, L: ReadableList>(
     records: &[Tally],
     words: WordTriple<'_, S>,
 ) -> Result<u32, Refusal>
-    ensures answer { L.ReadableList.sound list.now → result ≡ share_answer table.now.links records.now words.entry.relation (link_answer (word_kit S.Script L.ReadableList) list.now table.now.links words.entry.x.now words.entry.y.now words.entry.relation) }
+    ensures answer { result ≡ share_answer table.now.links records.now words.entry.relation (link_answer (word_kit S.Script L.ReadableList) list.now table.now.links words.entry.x.now words.entry.y.now words.entry.relation) }
     ensures nearest { Nearest }
     ensures law { ShareLaw (tally_kit S.Script L.ReadableList) (state_of list.now table.now.links records.now) words.entry.x.now words.entry.y.now words.entry.relation result }
 {

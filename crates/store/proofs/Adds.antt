@@ -32,33 +32,25 @@ module _ {S L R : Type 0} (K : Kit S L R) (room : L → List ℕ → Bool) (ente
 
   -- a word entered, in the words of the calls
   pub record Stepped (l : L) (x : List S) (side : Side) (l' : L) (n : Result ℕ Refusal) : Type 0 where
-    pub entered : EnterLeaves K.roll K.sound enters l (labels_of K x) l' (grows K room l x)
-    pub sound : K.sound l'
+    pub entered : EnterLeaves K.roll enters l (labels_of K x) l' (grows K room l x)
     pub went : Went l x side l' n
 
-  module _ (l : L) (x : List S) (side : Side) (l' : L) (ok : K.sound l) where
+  module _ (l : L) (x : List S) (side : Side) (l' : L) where
     by_cases : (n : Result ℕ Refusal) (a : Option ℕ) → number_in K l x ≡ a → (b : Bool) → room l (labels_of K x) ≡ b
-        → n ≡ entered_answer a b (length (K.roll l)) side → EnterLeaves K.roll K.sound enters l (labels_of K x) l' (none a && b) → (K.sound l') × Went l x side l' n
-    by_cases n (Some a) e b eb en h = (
-      subst K.sound (sym h) ok,
-      subst (Went l x side l') (sym en) (ap (λ (z : L). number_in K z x) h ∙ e, ap (λ (z : Option ℕ). none z && not (room l (labels_of K x))) e),
-    )
+        → n ≡ entered_answer a b (length (K.roll l)) side → EnterLeaves K.roll enters l (labels_of K x) l' (none a && b) → Went l x side l' n
+    by_cases n (Some a) e b eb en h = subst (Went l x side l') (sym en) (ap (λ (z : L). number_in K z x) h ∙ e, ap (λ (z : Option ℕ). none z && not (room l (labels_of K x))) e)
     by_cases n None e true eb en h =
-        let next : length (K.roll l) + 1 ≡ 1 + length (K.roll l) = omega arith in (
-          h.2,
-          subst (Went l x side l') (sym en) (
-            ap (λ (z : List (List ℕ)). number_of z (labels_of K x)) h.1 ∙ number_from_last 1 (K.roll l) (labels_of K x) e ∙ ap (λ (k : ℕ). Some k) (sym next),
-            ap (λ (z : Option ℕ). none z && not (room l (labels_of K x))) e ∙ ap not eb,
-          ),
+        let next : length (K.roll l) + 1 ≡ 1 + length (K.roll l) = omega arith in
+        subst (Went l x side l') (sym en) (
+          ap (λ (z : List (List ℕ)). number_of z (labels_of K x)) h.1 ∙ number_from_last 1 (K.roll l) (labels_of K x) e ∙ ap (λ (k : ℕ). Some k) (sym next),
+          ap (λ (z : Option ℕ). none z && not (room l (labels_of K x))) e ∙ ap not eb,
         )
-    by_cases n None e false eb en h =
-        (subst K.sound (sym h) ok, subst (Went l x side l') (sym en) (refl, ap (λ (z : Option ℕ). none z && not (room l (labels_of K x))) e ∙ ap not eb))
+    by_cases n None e false eb en h = subst (Went l x side l') (sym en) (refl, ap (λ (z : Option ℕ). none z && not (room l (labels_of K x))) e ∙ ap not eb)
 
-    pub stepped : (w : List ℕ) → w ≡ labels_of K x → (n : Result ℕ Refusal) → EnteredWord K.roll K.sound room enters l w side n l' → Stepped l x side l' n
+    pub stepped : (w : List ℕ) → w ≡ labels_of K x → (n : Result ℕ Refusal) → EnteredWord K.roll room enters l w side n l' → Stepped l x side l' n
     stepped w same n h =
-        let k = subst (λ (z : List ℕ). EnteredWord K.roll K.sound room enters l z side n l') same h in
-        let p = by_cases n (number_in K l x) refl (room l (labels_of K x)) refl k.0 k.1 in
-        record { entered = k.1; sound = p.0; went = p.1 }
+        let k = subst (λ (z : List ℕ). EnteredWord K.roll room enters l z side n l') same h in
+        record { entered = k.1; went = by_cases n (number_in K l x) refl (room l (labels_of K x)) refl k.0 k.1 }
 
 module _ {S L R : Type 0} (K : Kit S L R) (room : L → List ℕ → Bool) (enters : L → List ℕ → L → Type 0) (l : L) (t : LinkTable) (rs : List R) (x y : List S) (q : ℕ) (r : R) where
   abbrev links : L → List (Bool × Refusal)
@@ -77,8 +69,8 @@ module _ {S L R : Type 0} (K : Kit S L R) (room : L → List ℕ → Bool) (ente
       record {
         mid = l;
         last = l;
-        x_entered = subst (λ (b : Bool). EnterLeaves K.roll K.sound enters l (labels_of K x) l (b && grows K room l x)) (sym off) refl;
-        y_entered = subst (λ (b : Bool). EnterLeaves K.roll K.sound enters l (labels_of K y) l ((b && not (lacks K room l x)) && grows K room l y)) (sym off) refl;
+        x_entered = subst (λ (b : Bool). EnterLeaves K.roll enters l (labels_of K x) l (b && grows K room l x)) (sym off) refl;
+        y_entered = subst (λ (b : Bool). EnterLeaves K.roll enters l (labels_of K y) l ((b && not (lacks K room l x)) && grows K room l y)) (sym off) refl;
         result = decided_err (refusal_of_add K room l l l t x y q r) (state_of l t rs) n _ f (first_out (put_refusals x y q (K.good r)) (after_x l l) f e) en;
       }
 
@@ -91,21 +83,21 @@ module _ {S L R : Type 0} (K : Kit S L R) (room : L → List ℕ → Bool) (ente
     add_no_x mid f n w en = record {
       mid = mid;
       last = mid;
-      x_entered = subst (λ (b : Bool). EnterLeaves K.roll K.sound enters l (labels_of K x) mid (b && grows K room l x)) (sym on) w.entered;
-      y_entered = subst (λ (b : Bool). EnterLeaves K.roll K.sound enters mid (labels_of K y) mid ((b && not (lacks K room l x)) && grows K room mid y)) (sym on)
-          (subst (λ (b : Bool). EnterLeaves K.roll K.sound enters mid (labels_of K y) mid (not b && grows K room mid y)) (sym w.went.1) refl);
+      x_entered = subst (λ (b : Bool). EnterLeaves K.roll enters l (labels_of K x) mid (b && grows K room l x)) (sym on) w.entered;
+      y_entered = subst (λ (b : Bool). EnterLeaves K.roll enters mid (labels_of K y) mid ((b && not (lacks K room l x)) && grows K room mid y)) (sym on)
+          (subst (λ (b : Bool). EnterLeaves K.roll enters mid (labels_of K y) mid (not b && grows K room mid y)) (sym w.went.1) refl);
       result = decided_err (refusal_of_add K room l mid mid t x y q r) (state_of mid t rs) n _ (NoRoom First)
           (first_on (put_refusals x y q (K.good r)) (after_x mid mid) fit ∙ ap (λ (b : Bool). cond b (Some (NoRoom First)) (first (after_y mid mid))) w.went.1) (en ∙ ap (λ (e : Refusal). Err e) w.went.0);
     }
 
     module _ (mid last : L) (a : ℕ) (wx : Stepped K room enters l x First mid (Ok a)) where
-      x_in : EnterLeaves K.roll K.sound enters l (labels_of K x) mid (fine K x y q r && grows K room l x)
-      x_in = subst (λ (b : Bool). EnterLeaves K.roll K.sound enters l (labels_of K x) mid (b && grows K room l x)) (sym on) wx.entered
+      x_in : EnterLeaves K.roll enters l (labels_of K x) mid (fine K x y q r && grows K room l x)
+      x_in = subst (λ (b : Bool). EnterLeaves K.roll enters l (labels_of K x) mid (b && grows K room l x)) (sym on) wx.entered
 
-      y_in : EnterLeaves K.roll K.sound enters mid (labels_of K y) last (grows K room mid y)
-          → EnterLeaves K.roll K.sound enters mid (labels_of K y) last ((fine K x y q r && not (lacks K room l x)) && grows K room mid y)
-      y_in e = subst (λ (b : Bool). EnterLeaves K.roll K.sound enters mid (labels_of K y) last ((b && not (lacks K room l x)) && grows K room mid y)) (sym on)
-          (subst (λ (b : Bool). EnterLeaves K.roll K.sound enters mid (labels_of K y) last (not b && grows K room mid y)) (sym wx.went.1) e)
+      y_in : EnterLeaves K.roll enters mid (labels_of K y) last (grows K room mid y)
+          → EnterLeaves K.roll enters mid (labels_of K y) last ((fine K x y q r && not (lacks K room l x)) && grows K room mid y)
+      y_in e = subst (λ (b : Bool). EnterLeaves K.roll enters mid (labels_of K y) last ((b && not (lacks K room l x)) && grows K room mid y)) (sym on)
+          (subst (λ (b : Bool). EnterLeaves K.roll enters mid (labels_of K y) last (not b && grows K room mid y)) (sym wx.went.1) e)
 
       past_x : (ds : List (Bool × Refusal)) → first (put_refusals x y q (K.good r) ++ (lacks K room l x, NoRoom First) ∷ ds) ≡ first ds
       past_x ds = first_on (put_refusals x y q (K.good r)) ((lacks K room l x, NoRoom First) ∷ ds) fit ∙ ap (λ (b : Bool). cond b (Some (NoRoom First)) (first ds)) wx.went.1
@@ -123,7 +115,7 @@ module _ {S L R : Type 0} (K : Kit S L R) (room : L → List ℕ → Bool) (ente
 
       module _ (b : ℕ) (wy : Stepped K room enters mid y Second last (Ok b)) where
         -- X keeps its number while Y is entered
-        x_kept : (z : Bool) → EnterLeaves K.roll K.sound enters mid (labels_of K y) last z → number_in K last x ≡ Some a
+        x_kept : (z : Bool) → EnterLeaves K.roll enters mid (labels_of K y) last z → number_in K last x ≡ Some a
         x_kept true e = ap (λ (v : List (List ℕ)). number_of v (labels_of K x)) e.1 ∙ number_from_kept 1 (K.roll mid) (labels_of K y) (labels_of K x) a wx.went.0
         x_kept false e = ap (λ (v : L). number_in K v x) e ∙ wx.went.0
 

@@ -14,10 +14,10 @@ use Rattle.link_table.specs.declared.triple.Triple.{Triple}
 use Rattle.history.specs.declared.replies.Link.{Link}
 use Rattle.history.specs.Kits.{Kit, state_of, number_in, triple_in}
 use Rattle.history.specs.Refusals.{first, none, word_refusals, put_refusals, link_refusals}
-use Rattle.history.specs.Calls.{Decided, LinkMade, held_in, place_in, refusal_of_tie, Ties, refusal_of_delete, Deletes}
+use Rattle.history.specs.Calls.{Decided, LinkMade, held_in, place_in, refusal_of_tie, Ties, refusal_of_delete, Deletes, answered, link_by, link_in, find_of}
 use Rattle.store.specs.declared.labels.WordPair.{WordPair}
 use Rattle.store.specs.Words.{labels_in, Holds, KnownTriple}
-use Rattle.store.specs.Links.{Joins, JoinsAt}
+use Rattle.store.specs.Links.{Joins, JoinsAt, link_answer}
 use Rattle.store.proofs.Decisions.{first_on, first_out, decided_err, decided_ok}
 
 -- the table's refusal as the call gives it
@@ -94,6 +94,18 @@ known_words K l x y q p n holds k =
     subst (λ (w : List ℕ). KnownTriple (number_in K l x) (number_of (K.roll l) w) q n) holds.1
     (subst (λ (w : List ℕ). KnownTriple (number_of (K.roll l) w) (number_of (K.roll l) (labels_in p.y)) q n) holds.0 k)
 
+-- find, of words that the list has
+pub find_known : {S L R : Type 0} (K : Kit S L R) (l : L) (t : LinkTable) (x y : List S) (q : ℕ) (p : WordPair) → first (word_refusals x y q) ≡ None → Holds K.spelling x y p
+    → (a b : ℕ) → Some a ≡ number_of (K.roll l) (labels_in p.x) → Some b ≡ number_of (K.roll l) (labels_in p.y)
+    → find_of K l t x y q ≡ Ok (link_by K (Some a) (Some b) (found t (record { x = a; relation = q; y = b })))
+find_known K l t x y q p fit holds a b ea eb =
+    let triple : Triple = record { x = a; relation = q; y = b } in
+    let k = known_words K l x y q p (Ok triple) holds (sym ea, sym eb, refl) in
+    ap (λ (o : Option Refusal). answered o (link_by K (number_in K l x) (number_in K l y) (found t (triple_in K l x y q)))) fit
+    ∙ ap (λ (o : Option ℕ). Ok (link_by K o (number_in K l y) (found t (triple_in K l x y q)))) k.0
+    ∙ ap (λ (o : Option ℕ). Ok (link_by K (Some a) o (found t (triple_in K l x y q)))) k.1
+    ∙ ap (λ (z : Triple). Ok (link_by K (Some a) (Some b) (found t z))) (same_triple K l x y q triple k.0 k.1 refl)
+
 module _ {S L R : Type 0} (K : Kit S L R) (l : L) (t : LinkTable) (x y : List S) (q : ℕ) (fit : first (word_refusals x y q) ≡ None) where
   abbrev absent : List (Bool × Refusal)
   absent = (not (held_in K l t x y q), TripleAbsent) ∷ []
@@ -119,3 +131,18 @@ module _ {S L R : Type 0} (K : Kit S L R) (l : L) (t : LinkTable) (x y : List S)
         decided_ok (refusal_of_delete K l t x y q) t (Ok u) t' _
         (refusal_is ∙ ap (λ (o : Option ℕ). first ((not (is_some o), TripleAbsent) ∷ [])) out.had)
         (u, refl, subst (λ (z : Triple). Out t z u t') (sym (same_triple K l x y q triple known.0 known.1 known.2)) out)
+
+    -- a triple that is not present is refused
+    pub delete_absent : (t' : LinkTable) → found t triple ≡ None → (f : Refusal) → f ≡ TripleAbsent → (n : Result ℕ Refusal) → n ≡ Err f → t' ≡ t → Deletes K l t x y q n t'
+    delete_absent t' none f e n en same =
+        subst (λ (z : LinkTable). Deletes K l t x y q n z) (sym same)
+        (decided_err (refusal_of_delete K l t x y q) t n _ f
+        (refusal_is ∙ ap (λ (o : Option ℕ). first ((not (is_some o), TripleAbsent) ∷ [])) none ∙ ap (λ (z : Refusal). Some z) (sym e)) en)
+
+    -- the link of known words
+    pub link_known : link_answer K l t x y q ≡ answered (first ((not (is_some (found t triple)), TripleAbsent) ∷ [])) (record { x = triple.x; y = triple.y; number = unwrap_or (found t triple) 0 })
+    link_known =
+        ap (λ (o : Option Refusal). answered o (link_in K l x y (unwrap_or (found t (triple_in K l x y q)) 0))) refusal_is
+        ∙ ap (λ (o : Option ℕ). answered (first ((not (is_some (found t triple)), TripleAbsent) ∷ [])) (record { x = unwrap_or o 0; y = unwrap_or (number_in K l y) 0; number = unwrap_or (found t (triple_in K l x y q)) 0 })) known.0
+        ∙ ap (λ (o : Option ℕ). answered (first ((not (is_some (found t triple)), TripleAbsent) ∷ [])) (record { x = triple.x; y = unwrap_or o 0; number = unwrap_or (found t (triple_in K l x y q)) 0 })) known.1
+        ∙ ap (λ (z : Triple). answered (first ((not (is_some (found t triple)), TripleAbsent) ∷ [])) (record { x = triple.x; y = triple.y; number = unwrap_or (found t z) 0 })) (same_triple K l x y q triple known.0 known.1 known.2)

@@ -15,11 +15,11 @@ use Rattle.history.specs.Refusals.{first, link_refusals}
 
 -- the meaning that a script and a list give to calls that see no record
 abbrev pub word_kit : {S A L : Type 0} → Scripts S A → Lists L → Kit S L (Unit {0})
-word_kit s l = record { spelling = s.spelling; roll = l.roll; sound = l.sound; good = λ _. true }
+word_kit s l = record { spelling = s.spelling; roll = l.roll; good = λ _. true }
 
 -- the meaning that a record type gives to calls that see no word
 abbrev pub record_kit : {R : Type 0} → Records R → Kit (Unit {0}) (Unit {0}) R
-record_kit r = record { spelling = λ _. []; roll = λ _. []; sound = λ _. Unit {0}; good = r.sound }
+record_kit r = record { spelling = λ _. []; roll = λ _. []; good = r.sound }
 
 -- the triple was refused and nothing changed, or it has the new number u and the record stands there
 abbrev pub JoinsAt : {R : Type 0} → Option Refusal → LinkTable → List R → Triple → R → Result Link Refusal → LinkTable → List R → Type 0

@@ -47,7 +47,7 @@ entered_answer None true count side = Ok (count + 1)
 entered_answer None false count side = Err (NoRoom side)
 
 -- a word of the right length was entered into s, which left t
-abbrev pub EnteredWord : {L : Type 0} → (L → List (List ℕ)) → (L → Type 0) → (L → List ℕ → Bool) → (L → List ℕ → L → Type 0) → L → List ℕ → Side → Result ℕ Refusal → L → Type 0
-EnteredWord roll sound room enters s word side r t =
+abbrev pub EnteredWord : {L : Type 0} → (L → List (List ℕ)) → (L → List ℕ → Bool) → (L → List ℕ → L → Type 0) → L → List ℕ → Side → Result ℕ Refusal → L → Type 0
+EnteredWord roll room enters s word side r t =
     (r ≡ entered_answer (number_of (roll s) word) (room s word) (length (roll s)) side)
-    × EnterLeaves roll sound enters s word t (none (number_of (roll s) word) && room s word)
+    × EnterLeaves roll enters s word t (none (number_of (roll s) word) && room s word)

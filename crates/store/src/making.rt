@@ -23,9 +23,10 @@ impl RelationTable {
         index: Vec<u32>,
     ) -> RelationTable
         ensures made { Made (vec_len cells) (vec_len index) (length records.now) result.links }
-        ensures start { L.ReadableList.sound list.now → Reached (kit_of S.Script L.ReadableList R.Record) [] (state_of list.now result.links records.now) }
-        ensures law { L.ReadableList.sound list.now → Law (kit_of S.Script L.ReadableList R.Record) [] (state_of list.now result.links records.now) }
+        ensures start { Reached (kit_of S.Script L.ReadableList R.Record) [] (state_of list.now result.links records.now) }
+        ensures law { Law (kit_of S.Script L.ReadableList R.Record) [] (state_of list.now result.links records.now) }
     {
+        let _ = list.count();
         RelationTable {
             links: LinkTable::new(cells, index, records.len()),
         }

@@ -33,7 +33,7 @@ impl RelationTable {
         list: &L,
         words: WordTriple<'_, S>,
     ) -> Result<Option<Link>, Refusal>
-        ensures { L.ReadableList.sound list.now → result ≡ find_of (word_kit S.Script L.ReadableList) list.now self.now.links words.entry.x.now words.entry.y.now words.entry.relation }
+        ensures { result ≡ find_of (word_kit S.Script L.ReadableList) list.now self.now.links words.entry.x.now words.entry.y.now words.entry.relation }
     {
         let pair = spell_pair(words)?;
         // By `let else`, here and below: none is the answer then and no refusal, which `?` cannot say.
@@ -56,7 +56,7 @@ impl RelationTable {
         list: &L,
         words: WordTriple<'_, S>,
     ) -> Result<Link, Refusal>
-        ensures { L.ReadableList.sound list.now → result ≡ link_answer (word_kit S.Script L.ReadableList) list.now self.now.links words.entry.x.now words.entry.y.now words.entry.relation }
+        ensures { result ≡ link_answer (word_kit S.Script L.ReadableList) list.now self.now.links words.entry.x.now words.entry.y.now words.entry.relation }
     {
         let pair = spell_pair(words)?;
         let triple = known_triple(list, &pair, words.relation)?;
@@ -88,7 +88,7 @@ impl RelationTable {
         relation: u8,
         out: &mut [LinkRow],
     ) -> Result<usize, Refusal>
-        ensures { L.ReadableList.sound list.now → Lists (word_kit S.Script L.ReadableList) list.now self.now.links x.now relation out.old result out.new }
+        ensures { Lists (word_kit S.Script L.ReadableList) list.now self.now.links x.now relation out.old result out.new }
     {
         let word = spell(x, Side::First)?;
         let number = number_in(list, &word).ok_or(Refusal::UnknownWord(Side::First))?;

@@ -58,7 +58,7 @@ pub(super) fn admit<S: Script, R: Record>(
 
 // The number of a spelled word, or none.
 pub(super) fn number_in<L: ReadableList>(list: &L, word: &Labels) -> Option<u16>
-    ensures { L.ReadableList.sound list.now → result ≡ number_of (L.ReadableList.roll list.now) (labels_in word.now) }
+    ensures { result ≡ number_of (L.ReadableList.roll list.now) (labels_in word.now) }
 {
     list.find(word.as_slice()).unwrap_or(None)
 }
@@ -69,7 +69,7 @@ pub(super) fn known_triple<L: ReadableList>(
     pair: &WordPair,
     relation: u8,
 ) -> Result<Triple, Refusal>
-    ensures { L.ReadableList.sound list.now → KnownTriple (number_of (L.ReadableList.roll list.now) (labels_in pair.now.x)) (number_of (L.ReadableList.roll list.now) (labels_in pair.now.y)) relation result }
+    ensures { KnownTriple (number_of (L.ReadableList.roll list.now) (labels_in pair.now.x)) (number_of (L.ReadableList.roll list.now) (labels_in pair.now.y)) relation result }
 {
     let x = number_in(list, &pair.x).ok_or(Refusal::UnknownWord(Side::First))?;
     let y = number_in(list, &pair.y).ok_or(Refusal::UnknownWord(Side::Second))?;
@@ -78,7 +78,7 @@ pub(super) fn known_triple<L: ReadableList>(
 
 // Enters the spelled word on a side and answers its number. A new word without room is refused.
 pub(super) fn enter<L: GrowingList>(list: &mut L, word: &Labels, side: Side) -> Result<u16, Refusal>
-    ensures { L.ReadableList.sound list.old → EnteredWord L.ReadableList.roll L.ReadableList.sound L.GrowingList.room L.GrowingList.enters list.old (labels_in word.now) side result list.new }
+    ensures { EnteredWord L.ReadableList.roll L.GrowingList.room L.GrowingList.enters list.old (labels_in word.now) side result list.new }
 {
     list.enter(word.as_slice()).map_err(|fault| fault.at(side))
 }

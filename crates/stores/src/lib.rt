@@ -1,4 +1,4 @@
-// Stores that begin with no condition: over every list that is always sound.
+// Stores that begin, over every list.
 //
 // `new_store` makes the link table of a new store over a list, whatever words it holds, and its
 // records, and shows that a history begins there and that the law holds. From then on `perform` and
@@ -14,14 +14,14 @@ ghost use Rattle.history.specs.Laws.{Law};
 ghost use Rattle.stores.specs.Meanings.{ByteTextBegins};
 
 use cells::Cell;
-use lexicon::SoundList;
+use lexicon::ReadableList;
 use record::Record;
 use script::Script;
 use store::RelationTable;
 
 // The link table of a new store over a list and a record array, which stay as they are. The cell
 // array and the link index may hold anything.
-pub fn new_store<S: Script, L: SoundList, R: Record>(
+pub fn new_store<S: Script, L: ReadableList, R: Record>(
     list: &L,
     records: &[R],
     cells: Vec<Cell>,

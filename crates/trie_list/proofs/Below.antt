@@ -18,7 +18,7 @@ use Rattle.trie_list.specs.Paths.{path_of}
 use Rattle.trie_list.specs.Below.{codes_of, below_of, WordsBelow}
 use Rattle.trie_list.specs.Trie.{roll_of}
 use Rattle.trie_list.specs.declared.list.TrieList.{TrieList}
-use Rattle.trie_list.specs.Lists.{length_roll, roll_lawful, walked}
+use Rattle.trie_list.proofs.Lists.{length_roll, roll_lawful, walked}
 
 -- the path of a word that begins so
 pub path_begins : (b q : List ℕ) → path_of (b ++ q) ≡ codes_of b ++ path_of q

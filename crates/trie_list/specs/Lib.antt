@@ -2,6 +2,3 @@ pub mod Paths
 pub mod Rolls
 pub mod Trie
 pub mod Below
-pub mod Lists
-pub mod PathsLemmas
-pub mod RollsLemmas

@@ -33,7 +33,7 @@ room_of s word =
 pub record Made (n k : ℕ) (s : TrieList) : Type 0 where
   pub cells_long : length (cells_of s.array) ≡ min n 1048576
   pub cells_clear : (j : ℕ) → j < length (cells_of s.array) → at (cells_of s.array) j ≡ cleared j
-  pub index_long : length (index_of s.array) ≡ k
+  pub index_long : length (index_of s.array) ≡ min k 65535
   pub index_zero : (n : ℕ) → slice_index (index_of s.array) n ≡ 0
   pub no_words : s.count ≡ 0
 

@@ -4,14 +4,13 @@ ghost use Rattle.lexicon.specs.Rolls.{label_sized, number_of, numbered, word_of}
 ghost use Rattle.double_array.specs.Views.{cells_of, index_of};
 ghost use Rattle.trie_list.specs.Below.{below_of, below_answer, below_output, WordsBelow};
 ghost use Rattle.trie_list.specs.Trie.{roll_of, room_of, Made, Walked, Placed, Appends};
-ghost use Rattle.trie_list.specs.Lists.{roll_lawful};
 
 use super::list::TrieList;
 use super::spelling::{codes_of, labels_of, path_of};
 use arrayvec::ArrayVec;
 use cells::Cell;
 use double_array::DoubleArray;
-use lexicon::{GrowingList, ReadableList, SoundList, has_label_size, is_numbered};
+use lexicon::{GrowingList, ReadableList, has_label_size, is_numbered};
 use refusal::ListFault;
 use subtrie::numbers_below;
 
@@ -22,9 +21,10 @@ impl TrieList {
     // A list of no word over a cell array and an index array, which may hold anything: every cell
     // becomes free but the root, and every index entry 0. Of more than 1,048,576 cells the rest is
     // given up.
-    pub fn new(cells: Vec<Cell>, index: Vec<u32>) -> TrieList
+    pub fn new(cells: Vec<Cell>, mut index: Vec<u32>) -> TrieList
         ensures { Made (vec_len cells) (vec_len index) result }
     {
+        index.truncate(MAX_WORDS);
         TrieList {
             array: DoubleArray::new(cells, index),
             count: 0,
@@ -113,10 +113,6 @@ impl TrieList {
 impl ReadableList for TrieList {
     ghost roll = { roll_of };
 
-    ghost sound = { λ _. Unit {0} };
-
-    ghost lawful = { λ s _. roll_lawful s };
-
     fn count(&self) -> u16 {
         self.count as u16
     }
@@ -136,10 +132,6 @@ impl ReadableList for TrieList {
         let labels = self.labels_of(number);
         output::put(out, 0, labels.as_slice()).ok_or(ListFault::OutputTooShort)
     }
-}
-
-impl SoundList for TrieList {
-    ghost always = { λ _. tt };
 }
 
 impl GrowingList for TrieList {

@@ -45,7 +45,7 @@ module _ (s t : TrieList) (word : List ℕ) (r : Result ℕ ListFault) (h : Ente
   pub entered : (n : ℕ) (xs : Arrays) → answer_at v word ≡ Ok n → new_at v word ≡ true → enter v.cells v.index (path_of word) v.count ≡ Some xs
       → (r ≡ Ok n) × (held_by t ≡ record { cells = xs.cells; index = xs.index; count = v.count + 1 })
   entered n xs ok new step =
-      let p = (subst (EnterLeaves roll_of (λ _. Unit {0}) Placed s word t) (ap (λ (w : Held). new_at w word) e ∙ new) h.after).0 in
+      let p = (subst (EnterLeaves roll_of Placed s word t) (ap (λ (w : Held). new_at w word) e ∙ new) h.after).0 in
       let after : Arrays = record { cells = cells_of t.array; index = index_of t.array } in
       let same : after ≡ xs = some_same after xs (sym p.arrays_after ∙ ap (λ (w : Held). enter w.cells w.index (path_of word) w.count) e ∙ step) in
       let count = p.count_after ∙ ap (λ (w : Held). w.count + 1) e in
@@ -55,5 +55,5 @@ module _ (s t : TrieList) (word : List ℕ) (r : Result ℕ ListFault) (h : Ente
   pub refused : answer_at v word ≡ Err NoRoom → new_at v word ≡ false → (r ≡ Err NoRoom) × (t ≡ s)
   refused err old = (
     h.answer ∙ ap (λ (w : Held). answer_at w word) e ∙ err,
-    subst (EnterLeaves roll_of (λ _. Unit {0}) Placed s word t) (ap (λ (w : Held). new_at w word) e ∙ old) h.after,
+    subst (EnterLeaves roll_of Placed s word t) (ap (λ (w : Held). new_at w word) e ∙ old) h.after,
   )

@@ -36,7 +36,7 @@ held_by s = record { cells = cells_of s.array; index = index_of s.array; count =
 -- entering the word into the list s was answered r and left the list t
 pub record Enters (s : TrieList) (word : List ℕ) (r : Result ℕ ListFault) (t : TrieList) : Type 0 where
   pub answer : r ≡ enter_answer (roll_of s) (room_of s word) word
-  pub after : EnterLeaves roll_of (λ _. Unit {0}) Placed s word t (is_new (roll_of s) (room_of s word) word)
+  pub after : EnterLeaves roll_of Placed s word t (is_new (roll_of s) (room_of s word) word)
 
 -- a, b and ab were entered in turn into a new list of n cells and three index entries
 pub record ThreeWords (n : ℕ) : Type 0 where

@@ -4,4 +4,4 @@ use Rattle.entry.proofs.labels_held.Given as goal
 
 abbrev pub invariant-loop-index : goal.invariant-loop-index
 invariant-loop-index g l =
-    (l.labels ≤ 128 * l.index) × (g.L.ReadableList.sound l.list → l.labels ≡ labels_in (take l.index (g.L.ReadableList.roll l.list)))
+    (l.labels ≤ 128 * l.index) × (l.labels ≡ labels_in (take l.index (g.L.ReadableList.roll l.list)))

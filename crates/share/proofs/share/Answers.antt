@@ -14,7 +14,10 @@ pub returns-in_err-link-clause-law : goal.returns-in_err-link-clause-law
 returns-in_err-link-clause-law g c =
     let m = g.met.S.Script in
     share_law (tally_kit g.S.Script g.L.ReadableList) (words_apart g.S.Script.spelling g.S.Script.width m.narrow.0 m.even m.apart)
-    c.args.list.now c.args.table.now.links c.args.records.now c.args.words.x.now c.args.words.y.now c.args.words.relation c.from_residual.result (λ ok. search rules)
+    c.args.list.now c.args.table.now.links c.args.records.now c.args.words.x.now c.args.words.y.now c.args.words.relation c.from_residual.result (search rules)
+
+pub returns-in_err-link-clause-nearest : goal.returns-in_err-link-clause-nearest
+returns-in_err-link-clause-nearest g c = nearest
 
 pub returns : goal.returns
 returns g c =
@@ -28,8 +31,8 @@ returns g c =
     let K = word_kit g.S.Script g.L.ReadableList in
     let link = c.in_ok-link.link in
     let total = c.total-total.ensures.sum ∙ ap (λ (s : LinkTable). total_of eqb (present_in s rs) link.x q) c.links.ensures in
-    let answer : g.L.ReadableList.sound l → Ok c.millionths.result ≡ share_answer t rs q (link_answer K l t x y q) =
-    λ ok. share_is K l t rs x y q link (c.in_ok-link.ensures ok) c.millionths.result c.count_at-count.result c.total-total.result c.count_at-count.ensures total c.millionths.ensures in
+    let answer : Ok c.millionths.result ≡ share_answer t rs q (link_answer K l t x y q) =
+    share_is K l t rs x y q link c.in_ok-link.ensures c.millionths.result c.count_at-count.result c.total-total.result c.count_at-count.ensures total c.millionths.ensures in
     record {
       answer = answer;
       nearest = nearest;

@@ -9,7 +9,7 @@ use Rattle.lines.proofs.answering.listed.Goals as goal
 
 pub returns : goal.returns
 returns c =
-    let step = c.perform_growing-reply.ensures.step tt in
+    let step = c.perform_growing-reply.ensures.step in
     let rows = replicate 100 c.default-rows.result in
     let rows' = c.perform_growing-reply.new.out in
     let same : c.perform_growing-reply.new.records ≡ c.args.records.now = ap (λ (s : Store). s.records) step.3 in (

@@ -3,7 +3,7 @@ use Rattle.std.specs.Str.{bytes_eq}
 use Rattle.std.proofs.lemmas.List.{at_drop_all}
 use Rattle.lexicon.specs.Rolls.{number_from}
 use Rattle.plain_list.specs.Cuts.{cut}
-use Rattle.plain_list.specs.CutsLemmas.{next_inside}
+use Rattle.plain_list.proofs.CutsLemmas.{next_inside}
 use Rattle.plain_list.proofs.search.number_in.Goals as goal
 
 pub slice_bounds-eq-end : goal.slice_bounds-eq-end

@@ -4,7 +4,7 @@ use Rattle.std.proofs.lemmas.Bool.{and_parts}
 use Rattle.lexicon.specs.Rolls.{label_sized}
 use Rattle.cells.proofs.Climbs.{code_high}
 use Rattle.trie_list.specs.Paths.{ends_once, labels_of, word_path}
-use Rattle.trie_list.specs.PathsLemmas.{labels_map, label_low, word_path_size}
+use Rattle.trie_list.proofs.PathsLemmas.{labels_map, label_low, word_path_size}
 use Rattle.trie_list.proofs.spelling.labels_of.Goals as goal
 
 -- how many codes a path has before its last

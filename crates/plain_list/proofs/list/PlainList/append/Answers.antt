@@ -3,7 +3,7 @@ use Rattle.lexicon.specs.Rolls.{Sized, Distinct}
 use Rattle.lexicon.proofs.Numbers.{lawful_push}
 use Rattle.plain_list.specs.Cuts.{cut}
 use Rattle.plain_list.specs.Plain.{roll_of}
-use Rattle.plain_list.specs.Lists.{length_roll, roll_lawful, New, new_facts, more_bytes, more_sum, more_roll}
+use Rattle.plain_list.proofs.Lists.{length_roll, roll_lawful, New, new_facts, more_bytes, more_sum, more_roll}
 use Rattle.plain_list.proofs.list.PlainList.append.Goals as goal
 
 pub invariant_of-self : goal.invariant_of-self

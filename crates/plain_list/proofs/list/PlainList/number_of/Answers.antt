@@ -2,7 +2,7 @@ use Rattle.std.proofs.Common.{◌≡◌, ◌-◌, Some, arith}
 use Rattle.lexicon.specs.Rolls.{number_of}
 use Rattle.lexicon.proofs.Numbers.{number_some}
 use Rattle.plain_list.specs.Plain.{roll_of}
-use Rattle.plain_list.specs.Lists.{length_roll}
+use Rattle.plain_list.proofs.Lists.{length_roll}
 use Rattle.plain_list.proofs.list.PlainList.number_of.Goals as goal
 
 pub map-requires : goal.map-requires

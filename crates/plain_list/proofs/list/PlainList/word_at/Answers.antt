@@ -1,5 +1,5 @@
 use Rattle.std.proofs.Common.{◌≡◌, ◌+◌, ◌-◌, get_or, take, vec_items, sum, ap, arith}
-use Rattle.plain_list.specs.Lists.{counted, front_is, word_inside, word_reads}
+use Rattle.plain_list.proofs.Lists.{counted, front_is, word_inside, word_reads}
 use Rattle.plain_list.proofs.list.PlainList.word_at.Goals as goal
 
 pub bytes_of-start-requires : goal.bytes_of-start-requires

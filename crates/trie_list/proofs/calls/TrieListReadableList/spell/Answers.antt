@@ -4,7 +4,7 @@ use Rattle.lexicon.specs.Rolls.{numbered}
 use Rattle.lexicon.proofs.Numbers.{numbered_by}
 use Rattle.lexicon.proofs.Spells.{put_answer, put_output, put_within}
 use Rattle.trie_list.specs.Trie.{roll_of}
-use Rattle.trie_list.specs.Lists.{length_roll}
+use Rattle.trie_list.proofs.Lists.{length_roll}
 use Rattle.trie_list.proofs.calls.TrieListReadableList.spell.Goals as goal
 
 pub labels_of-labels-requires : goal.labels_of-labels-requires
@@ -15,8 +15,8 @@ returns-then-not-is_numbered c =
     let s = c.args.self.now in
     let none : numbered (roll_of s) c.args.number ≡ false = sym (numbered_by (roll_of s) c.args.number s.count (length_roll s)) ∙ sym c.if-not-is_numbered.ensures in
     record {
-      answer = λ _. sym (cond-false _ _ _ none);
-      output = λ _. sym (cond-false _ _ _ none);
+      answer = sym (cond-false _ _ _ none);
+      output = sym (cond-false _ _ _ none);
       within = tt;
     }
 
@@ -28,7 +28,7 @@ returns c =
     let word = c.as_slice.result.now in
     let same = c.as_slice.ensures.value ∙ c.labels_of-labels.ensures in
     record {
-      answer = λ _. put_answer (roll_of s) c.args.number out word some same c.put.result c.ok_or.result c.put.ensures.end c.ok_or.ensures.value;
-      output = λ _. put_output (roll_of s) c.args.number out word some same c.put.new.out c.put.ensures.after;
+      answer = put_answer (roll_of s) c.args.number out word some same c.put.result c.ok_or.result c.put.ensures.end c.ok_or.ensures.value;
+      output = put_output (roll_of s) c.args.number out word some same c.put.new.out c.put.ensures.after;
       within = put_within out word c.put.result c.ok_or.result c.put.ensures.end c.ok_or.ensures.value;
     }

@@ -5,8 +5,8 @@ use Rattle.cells.specs.Placing.{Arrays, enter}
 use Rattle.double_array.specs.Entries.{refusal}
 use Rattle.double_array.specs.Views.{cells_of, index_of}
 use Rattle.trie_list.specs.Paths.{path_of}
-use Rattle.trie_list.specs.RollsLemmas.{grown_listed, grown_words}
-use Rattle.trie_list.specs.Lists.{listed, append_refused, refused_place, room_yes, entered_as}
+use Rattle.trie_list.proofs.RollsLemmas.{grown_listed, grown_words}
+use Rattle.trie_list.proofs.Lists.{listed, append_refused, refused_place, room_yes, entered_as}
 use Rattle.trie_list.proofs.list.TrieList.append.Goals as goal
 use Rattle.trie_list.proofs.list.TrieList.append.Goals.{In_ok-enter}
 

@@ -1,4 +1,4 @@
-use Rattle.trie_list.specs.Lists.{walked}
+use Rattle.trie_list.proofs.Lists.{walked}
 use Rattle.trie_list.proofs.list.TrieList.cells.Goals as goal
 
 pub returns : goal.returns

@@ -4,7 +4,7 @@ use Rattle.cells.proofs.Basics.{no_some}
 use Rattle.double_array.specs.Views.{cells_of, index_of}
 use Rattle.trie_list.specs.Paths.{labels_of}
 use Rattle.trie_list.specs.Rolls.{path_at}
-use Rattle.trie_list.specs.Lists.{path_known, word_labels}
+use Rattle.trie_list.proofs.Lists.{path_known, word_labels}
 use Rattle.trie_list.proofs.list.TrieList.labels_of.Goals as goal
 
 -- the slice that was written is the path

@@ -5,8 +5,8 @@ use Rattle.lexicon.specs.Rolls.{number_of}
 use Rattle.trie_list.specs.declared.list.TrieList.{TrieList}
 use Rattle.trie_list.specs.Paths.{path_of}
 use Rattle.trie_list.specs.Trie.{roll_of}
-use Rattle.trie_list.specs.RollsLemmas.{number_is}
-use Rattle.trie_list.specs.Lists.{listed}
+use Rattle.trie_list.proofs.RollsLemmas.{number_is}
+use Rattle.trie_list.proofs.Lists.{listed}
 use Rattle.trie_list.proofs.list.TrieList.number_of.Goals as goal
 
 -- what the double array answers of the word's path is the number of the word
