@@ -1,0 +1,2 @@
+pub mod CutsLemmas
+pub mod Lists
