@@ -8,8 +8,11 @@ ghost use Rattle.std.specs.Prelude.{◌≡◌, Bool, ◌&&◌};
 ghost use Rattle.std.specs.Float.Ieee.{le};
 ghost use Rattle.record.specs.Soundness.{sound_tally, sound_score, NanUnsound};
 
+mod meanings;
 #[cfg(test)]
 mod tests;
+
+pub use meanings::meaning;
 
 // A record type tells of each record whether it is sound, always alike for the same record.
 pub trait Record: Copy {

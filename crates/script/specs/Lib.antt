@@ -1,2 +1,3 @@
 pub mod Alphabets
+pub mod Meanings
 pub mod Words

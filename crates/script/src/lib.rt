@@ -15,8 +15,10 @@ use refusal::SpellFault;
 use std::convert::AsSlice;
 
 mod alphabets;
+mod meanings;
 
 pub use alphabets::{MorphemeClass, MorphemeSign};
+pub use meanings::meaning;
 
 // A script is told by the type of its symbols. Its meaning is the spelling of each symbol.
 pub trait Script {
