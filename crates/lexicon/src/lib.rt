@@ -11,6 +11,9 @@ ghost use Rattle.lexicon.specs.Answers.{find_answer, word_answer, word_output, e
 
 use refusal::ListFault;
 
+// A list has at most this many words: their numbers, from 1 up, are 16-bit numbers.
+pub const MAX_WORDS: usize = 65_535;
+
 pub trait ReadableList {
     // The list's words, each spelled in labels, in the order of their numbers: the roll.
     ghost roll: { Self → List (List ℕ) };

@@ -8,6 +8,7 @@ use Rattle.lexicon.specs.Rolls.{number_from}
 use Rattle.output.specs.Written.{written}
 use Rattle.output.proofs.Writes.{written_reads, take_written}
 use Rattle.plain_list.specs.Cuts.{cut}
+use Rattle.plain_list.specs.Plain.{bytes_in}
 
 pub length_cut : (ns bs : List ℕ) → length (cut ns bs) ≡ length ns
 length_cut [] bs = refl
@@ -45,6 +46,14 @@ next_inside ns i h = omega (arith, sum_by_more (λ x. x) ns i 0 h, sum_by-take-l
 pub cut_long : (ns bs : List ℕ) (i : ℕ) → i < length ns → sum ns ≤ length bs → length (slice_index_or (cut ns bs) i []) ≡ slice_index ns i
 cut_long ns bs i h fit =
     ap length (cut_at ns bs i h) ∙ length-take-le (slice_index ns i) (drop (sum (take i ns)) bs) (simp length-drop (omega (arith, next_inside ns i h)))
+
+-- the words take as many bytes as their lengths say
+pub bytes_cut : (ns bs : List ℕ) → sum ns ≤ length bs → bytes_in (cut ns bs) ≡ sum ns
+bytes_cut [] bs fit = refl
+bytes_cut (n ∷ ns) bs fit =
+    let s = sum_by-cons (λ x. x) n ns in
+    let more : sum ns ≤ length (drop n bs) = simp length-drop (omega arith) in
+    sum_by-cons length (take n bs) (cut ns (drop n bs)) ∙ omega (arith, length-take-le n bs (omega arith), bytes_cut ns (drop n bs) more)
 
 -- a word that is written after the others is the last
 pub cut_write : (ns bs w : List ℕ) → sum ns + length w ≤ length bs → cut (ns ++ length w ∷ []) (written bs (sum ns) w) ≡ cut ns bs ++ w ∷ []

@@ -1,18 +1,19 @@
 -- What the fields of a plain list say of its roll.
-use Rattle.std.specs.Prelude.{◌≡◌, ℕ, ◌+◌, ◌-◌, ◌<◌, ◌≤◌, min, true, false, cond, not, ◌&&◌, List, [], ◌∷◌, ◌++◌, length, take, drop, is_some, Some, None, vec_items, vec_len, sum, Option, nat_le, nat_lt, slice_index, slice_index_or, slice_set, refl}
+use Rattle.std.specs.Prelude.{◌≡◌, ℕ, ◌+◌, ◌-◌, ◌<◌, ◌≤◌, min, true, false, cond, not, ◌&&◌, List, [], ◌∷◌, ◌++◌, length, take, drop, is_some, Some, None, Ok, vec_items, vec_len, sum, Option, nat_le, nat_lt, slice_index, slice_index_or, slice_set, refl}
 use Rattle.std.proofs.Common.{sym, ap, ◌∙◌, arith}
 use Rattle.std.specs.Vec.{with_items}
-use Rattle.std.proofs.lemmas.List.{take-take, length-take-le, get_or-take, take_more_set, with_items_is}
+use Rattle.std.proofs.lemmas.List.{length_push, take-take, length-take-le, get_or-take, take_more_set, with_items_is}
 use Rattle.std.proofs.lemmas.List.Sums.{sum_by_push}
 use Rattle.std.proofs.lemmas.Bool.{and_parts, not-true, ltb-true, leb-true, le-leb, cond-true}
 use Rattle.output.specs.Written.{fits, written}
 use Rattle.lexicon.specs.Rolls.{Lawful, label_sized, number_of}
-use Rattle.lexicon.specs.Answers.{is_new}
+use Rattle.lexicon.specs.Answers.{enter_answer, is_new, EnterLeaves}
 use Rattle.lexicon.proofs.Numbers.{label_bounds}
+use Rattle.lexicon.proofs.Entries.{new_answer, new_is, leaves_new}
 use Rattle.plain_list.specs.Cuts.{cut}
-use Rattle.plain_list.specs.Plain.{roll_of, room_of}
+use Rattle.plain_list.specs.Plain.{roll_of, bytes_in, room_of, Appended}
 use Rattle.plain_list.specs.declared.list.PlainList.{PlainList}
-use Rattle.plain_list.proofs.CutsLemmas.{length_cut, cut_at, cut_write, next_inside}
+use Rattle.plain_list.proofs.CutsLemmas.{length_cut, cut_at, bytes_cut, cut_write, next_inside}
 
 -- the lengths of the words
 abbrev pub counted : PlainList → List ℕ
@@ -26,6 +27,9 @@ length_roll s = length_cut (counted s) (vec_items s.bytes) ∙ length_counted s
 
 pub words_inside : (s : PlainList) → sum (counted s) ≤ length (vec_items s.bytes)
 words_inside s = omega (arith, s.ended, s.inside, s.bytes.ok.0)
+
+pub bytes_roll : (s : PlainList) → bytes_in (roll_of s) ≡ s.used
+bytes_roll s = bytes_cut (counted s) (vec_items s.bytes) (words_inside s) ∙ sym s.ended
 
 pub roll_lawful : (s : PlainList) → Lawful (roll_of s)
 roll_lawful s = record { few = omega (arith, s.few, length_roll s); sized = s.sized; apart = s.apart }
@@ -46,6 +50,15 @@ word_reads s i h =
     cut_at (counted s) (vec_items s.bytes) i (omega (arith, length_counted s))
     ∙ ap (λ (n : ℕ). take n (drop (sum (take i (counted s))) (vec_items s.bytes))) (get_or-take s.count (vec_items s.lengths) i 0 h)
 
+-- whether there is room, by how many words are counted and how many bytes are used
+pub room_is : (s : PlainList) (w : List ℕ)
+    → room_of s w ≡ (nat_lt s.count (min (vec_len s.lengths) 65535) && nat_le (length w) (min (vec_len s.bytes) 8388608 - s.used))
+room_is s w =
+    let words = min (vec_len s.lengths) 65535 in
+    let bytes = min (vec_len s.bytes) 8388608 in
+    ap (λ (n : ℕ). nat_lt n words && nat_le (length w) (bytes - bytes_in (roll_of s))) (length_roll s)
+    ∙ ap (λ (u : ℕ). nat_lt s.count words && nat_le (length w) (bytes - u)) (bytes_roll s)
+
 -- what is known of a new word
 pub record New (s : PlainList) (w : List ℕ) : Type 0 where
   pub sized : label_sized w ≡ true
@@ -65,7 +78,7 @@ new_facts s w e =
     let inner = and_parts (not (is_some (number_of (roll_of s) w))) (room_of s w) outer.1 in
     let words = min (vec_len s.lengths) 65535 in
     let bytes = min (vec_len s.bytes) 8388608 in
-    let room = and_parts (nat_lt s.count words) (nat_le (length w) (bytes - s.used)) inner.1 in
+    let room = and_parts (nat_lt s.count words) (nat_le (length w) (bytes - s.used)) (sym (room_is s w) ∙ inner.1) in
     let left : s.count < words = ltb-true s.count words room.0 in
     let free : length w ≤ bytes - s.used = leb-true (length w) (bytes - s.used) room.1 in
     let some = label_bounds w outer.0 in
@@ -100,3 +113,13 @@ module _ (s : PlainList) (w : List ℕ) (new : New s w) where
       let room : s.used + length w ≤ length held = omega (arith, new.fits, ap length same, s.bytes.ok.0) in
       let fit : fits held s.used w ≡ true = le-leb (s.used + length w) (length held) room in
       with_items_is s.bytes last long ∙ put ∙ cond-true (fits held s.used w) (written held s.used w) held fit ∙ ap (λ (z : List ℕ). written z s.used w) same
+
+-- what entering a new word with room answers and leaves
+pub entered : (s t : PlainList) (w : List ℕ) → label_sized w ≡ true → number_of (roll_of s) w ≡ None → room_of s w ≡ true
+    → Appended s w t → roll_of t ≡ roll_of s ++ w ∷ []
+    → (Ok t.count ≡ enter_answer (roll_of s) (room_of s w) w) × EnterLeaves roll_of Appended s w t (is_new (roll_of s) (room_of s w) w)
+entered s t w sized absent free arrays grown =
+    let count : t.count ≡ length (roll_of s) + 1 = sym (length_roll t) ∙ ap length grown ∙ length_push (roll_of s) w in (
+      ap (λ n. Ok n) count ∙ sym (new_answer (roll_of s) (room_of s w) w sized absent free),
+      leaves_new roll_of Appended s w t _ (new_is (roll_of s) (room_of s w) w sized absent free) arrays grown (roll_lawful t),
+    )

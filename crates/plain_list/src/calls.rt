@@ -2,15 +2,12 @@
 ghost use Rattle.std.specs.Prelude.{◌≡◌, ◌<◌, true, [], ◌∷◌, ◌++◌, slice_index_or};
 ghost use Rattle.lexicon.specs.Rolls.{number_of};
 ghost use Rattle.lexicon.specs.Answers.{is_new};
-ghost use Rattle.plain_list.specs.Plain.{roll_of, fits_free, room_of, Made, Appended};
+ghost use Rattle.plain_list.specs.Plain.{roll_of, room_of, Made, Appended};
 
 use super::list::PlainList;
 use super::search;
-use lexicon::{GrowingList, ReadableList, has_label_size, is_numbered};
+use lexicon::{GrowingList, MAX_WORDS, ReadableList, has_label_size, is_numbered};
 use refusal::ListFault;
-
-// A list has at most as many words as a 16-bit number counts.
-const MAX_WORDS: usize = 65_535;
 
 // A word of 128 labels for each number from 0 to 65,535.
 const MAX_BYTES: usize = 8_388_608;
@@ -62,13 +59,14 @@ impl PlainList {
         &bytes[start..end]
     }
 
-    // A number is left, and as many bytes are unused.
-    fn has_room(&self, labels: usize) -> bool
-        ensures { result ≡ fits_free self.now labels }
+    // A number is left, and bytes for the word.
+    #[tactic(auto, using(crate::proofs::Lists::room_is))]
+    fn has_room(&self, word: &[u8]) -> bool
+        ensures { result ≡ room_of self.now word.now }
     {
         let words = self.lengths.len().min(MAX_WORDS);
         let bytes = self.bytes.len().min(MAX_BYTES);
-        self.count < words && labels <= bytes - self.used
+        self.count < words && word.len() <= bytes - self.used
     }
 
     // Writes a new word after the last.
@@ -115,6 +113,7 @@ impl GrowingList for PlainList {
 
     ghost enters = { Appended };
 
+    #[tactic(auto, using(crate::proofs::Lists::entered))]
     fn enter(&mut self, word: &[u8]) -> Result<u16, ListFault> {
         if !has_label_size(word) {
             return Err(ListFault::WordLength);
@@ -122,7 +121,7 @@ impl GrowingList for PlainList {
         if let Some(number) = self.number_of(word) {
             return Ok(number);
         }
-        if !self.has_room(word.len()) {
+        if !self.has_room(word) {
             return Err(ListFault::NoRoom);
         }
         self.append(word);

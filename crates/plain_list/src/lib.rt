@@ -7,6 +7,8 @@
 
 mod calls;
 mod list;
+mod meanings;
 mod search;
 
 pub use list::PlainList;
+pub use meanings::meaning;

@@ -1,9 +1,10 @@
-use Rattle.std.proofs.Common.{◌≡◌, ◌+◌, length, take, set, vec_items, sym, refl, ap, ◌∙◌, subst, arith}
+use Rattle.std.proofs.Common.{◌≡◌, ℕ, ◌+◌, length, take, set, vec_items, sym, ap, ◌∙◌, subst, arith}
 use Rattle.lexicon.specs.Rolls.{Sized, Distinct}
 use Rattle.lexicon.proofs.Numbers.{lawful_push}
+use Rattle.output.specs.Written.{written}
 use Rattle.plain_list.specs.Cuts.{cut}
 use Rattle.plain_list.specs.Plain.{roll_of}
-use Rattle.plain_list.proofs.Lists.{length_roll, roll_lawful, New, new_facts, more_bytes, more_sum, more_roll}
+use Rattle.plain_list.proofs.Lists.{length_roll, bytes_roll, roll_lawful, New, new_facts, more_bytes, more_sum, more_roll}
 use Rattle.plain_list.proofs.list.PlainList.append.Goals as goal
 
 pub invariant_of-self : goal.invariant_of-self
@@ -25,6 +26,9 @@ invariant_of-self c =
       apart = subst Distinct (sym roll) lawful.apart;
     }
 
+pub index_mut-requires : goal.index_mut-requires
+index_mut-requires c = (new_facts c.args.self.now c.args.word.now c.requires).place
+
 pub returns : goal.returns
 returns c =
     let s = c.args.self.now in
@@ -33,6 +37,9 @@ returns c =
     let long : length c.put.new.out ≡ s.bytes.len = omega (arith, c.put.auto.out, c.as_mut_slice.ensures.len) in
     let bytes = more_bytes s w new c.put.new.out c.as_mut_slice.result.now long c.as_mut_slice.ensures.value c.put.ensures.after in
     record {
-      arrays = record { bytes_after = bytes; lengths_after = refl; count_after = refl; used_after = refl };
+      arrays = record {
+        bytes_after = bytes ∙ ap (λ (u : ℕ). written (vec_items s.bytes) u w) (sym (bytes_roll s));
+        lengths_after = ap (λ (n : ℕ). set (vec_items s.lengths) n (length w)) (sym (length_roll s));
+      };
       roll = ap (cut (take (s.count + 1) (set (vec_items s.lengths) s.count (length w)))) bytes ∙ more_roll s w new;
     }
