@@ -1,10 +1,10 @@
 -- What the fields of a trie list say of its roll.
-use Rattle.std.specs.Prelude.{◌≡◌, ℕ, zero, suc, ◌+◌, ◌-◌, ◌<◌, ◌≤◌, min, true, false, cond, ◌&&◌, List, [], length, get_or, is_some, Some, None, Ok, Err, Option, Result, ◌==◌, nat_le, nat_lt, slice_index, slice_index_or, refl}
+use Rattle.std.specs.Prelude.{◌≡◌, ℕ, zero, suc, ◌+◌, ◌-◌, ◌<◌, ◌≤◌, true, false, cond, ◌&&◌, List, [], length, get_or, is_some, Some, None, Ok, Err, Option, Result, ◌==◌, nat_le, nat_lt, slice_index, slice_index_or, refl}
 use Rattle.std.proofs.Common.{sym, ap, subst, ◌∙◌, arith}
 use mathlib.Core.HLevel.{is_prop→PathP}
 use Rattle.std.proofs.Math.Bridge.{le_prop}
 use denote.Struct.Props.{props}
-use Rattle.std.proofs.lemmas.Bool.{and_from, and_parts, and_right, both_ways, le-leb, lt-ltb, le-ltb, eq-eqb, cond-true, cond-false}
+use Rattle.std.proofs.lemmas.Bool.{and_from, and_parts, and_left, and_right, both_ways, le-leb, lt-ltb, le-ltb, eq-eqb, cond-true, cond-false}
 use Rattle.refusal.specs.declared.ListFault.{ListFault}
 use Rattle.refusal.specs.declared.ListFault.TheVariants.{NoRoom}
 use Rattle.refusal.specs.declared.PathFault.{PathFault}
@@ -37,7 +37,7 @@ pub listed : (s : TrieList) → Listed (cells_of s.array) (index_of s.array) s.c
 listed s = record {
   sound = sound_from s.array;
   within = s.within;
-  few = s.few;
+  few = omega (arith, s.within, s.few);
   numbered = s.numbered;
   unnumbered = s.unnumbered;
   counted = s.counted;
@@ -74,7 +74,7 @@ same_list s t p q = λ j. record {
   array = p j;
   count = q j;
   within = is_prop→PathP (λ k. q k ≤ length (index_of (p k))) (λ k. le_prop) s.within t.within j;
-  few = is_prop→PathP (λ k. q k ≤ 65535) (λ k. le_prop) s.few t.few j;
+  few = is_prop→PathP (λ k. length (index_of (p k)) ≤ 65535) (λ k. le_prop) s.few t.few j;
   numbered = is_prop→PathP (λ k. Numbered (index_of (p k)) (q k)) (λ k. hlevel props) s.numbered t.numbered j;
   unnumbered = is_prop→PathP (λ k. Unnumbered (index_of (p k)) (q k)) (λ k. hlevel props) s.unnumbered t.unnumbered j;
   counted = is_prop→PathP (λ k. Counted (cells_of (p k)) (q k)) (λ k. hlevel props) s.counted t.counted j;
@@ -109,6 +109,24 @@ module _ (s : TrieList) (u : ℕ) (some : numbered (roll_of s) u ≡ true) where
   pub word_labels : labels_of (path_at (cells_of s.array) (index_of s.array) (u - 1)) ≡ word_of (roll_of s) u
   word_labels = sym (get_d_words (cells_of s.array) (index_of s.array) s.count (listed s) (u - 1) low)
 
+-- whether there is room, by how many words are counted
+pub room_is : (s : TrieList) (w : List ℕ)
+    → room_of s w ≡ (nat_lt s.count (length (index_of s.array)) && is_some (enter (cells_of s.array) (index_of s.array) (path_of w) s.count))
+room_is s w =
+    ap (λ (n : ℕ). nat_lt n (length (index_of s.array)) && is_some (enter (cells_of s.array) (index_of s.array) (path_of w) n)) (length_roll s)
+
+-- there is none where each index place has its word
+pub room_full : (s : TrieList) (w : List ℕ) → length (index_of s.array) ≤ s.count → room_of s w ≡ false
+room_full s w full =
+    room_is s w
+    ∙ and_left (nat_lt s.count (length (index_of s.array))) (is_some (enter (cells_of s.array) (index_of s.array) (path_of w) s.count))
+    (le-ltb s.count (length (index_of s.array)) full)
+
+-- what the placing rule leaves, by how many words are counted
+pub placed : (s : TrieList) (w : List ℕ) (t : TrieList)
+    → enter (cells_of s.array) (index_of s.array) (path_of w) s.count ≡ Some (record { cells = cells_of t.array; index = index_of t.array }) → Placed s w t
+placed s w t did = record { arrays_after = ap (enter (cells_of s.array) (index_of s.array) (path_of w)) (length_roll s) ∙ did }
+
 -- a path that ends with the end sign and nowhere else has it
 abbrev Ends : List ℕ → Type 0
 Ends p = ends_once p ≡ true
@@ -127,7 +145,7 @@ ending s = record {
 
 -- a new word's path with the next number is refused only for want of a place
 module _ (s : TrieList) (w : List ℕ) (sized : label_sized w ≡ true) (absent : number_of (roll_of s) w ≡ None) (bytes : (k : ℕ) → slice_index w k < 256)
-    (left : s.count < min (length (index_of s.array)) 65535) where
+    (left : s.count < length (index_of s.array)) where
   none_held : number_at (cells_of s.array) (path_of w) ≡ None
   none_held = number_is (cells_of s.array) (index_of s.array) s.count (listed s) w ∙ absent
 
@@ -145,7 +163,7 @@ module _ (s : TrieList) (w : List ℕ) (sized : label_sized w ≡ true) (absent 
   open_number =
       let none : get_or (index_of s.array) (s.count + 1 - 1) 0 ≡ 0 = s.unnumbered (s.count + 1 - 1) (omega arith) in
       and_from (nat_lt 0 (s.count + 1) && nat_lt (s.count + 1) 2147483648) (slice_index (index_of s.array) (s.count + 1 - 1) == 0)
-      (and_from (nat_lt 0 (s.count + 1)) (nat_lt (s.count + 1) 2147483648) (lt-ltb 0 (s.count + 1) (omega arith)) (lt-ltb (s.count + 1) 2147483648 (omega (arith, s.few))))
+      (and_from (nat_lt 0 (s.count + 1)) (nat_lt (s.count + 1) 2147483648) (lt-ltb 0 (s.count + 1) (omega arith)) (lt-ltb (s.count + 1) 2147483648 (omega (arith, left, s.few))))
       (eq-eqb (slice_index (index_of s.array) (s.count + 1 - 1)) 0 none)
 
   new_path : is_new (cells_of s.array) (path_of w) ≡ true
@@ -159,11 +177,14 @@ module _ (s : TrieList) (w : List ℕ) (sized : label_sized w ≡ true) (absent 
   -- the word has room where its path is entered, and none where there is no place
   pub room_yes : (xs : Arrays) → enter (cells_of s.array) (index_of s.array) (path_of w) s.count ≡ Some xs → room_of s w ≡ true
   room_yes xs did =
-      and_from (nat_lt s.count (min (length (index_of s.array)) 65535)) (is_some (enter (cells_of s.array) (index_of s.array) (path_of w) s.count))
-      (lt-ltb s.count (min (length (index_of s.array)) 65535) left) (ap is_some did)
+      room_is s w
+      ∙ and_from (nat_lt s.count (length (index_of s.array))) (is_some (enter (cells_of s.array) (index_of s.array) (path_of w) s.count))
+      (lt-ltb s.count (length (index_of s.array)) left) (ap is_some did)
 
   pub room_no : enter (cells_of s.array) (index_of s.array) (path_of w) s.count ≡ None → room_of s w ≡ false
-  room_no none = and_right (nat_lt s.count (min (length (index_of s.array)) 65535)) (is_some (enter (cells_of s.array) (index_of s.array) (path_of w) s.count)) (ap is_some none)
+  room_no none =
+      room_is s w
+      ∙ and_right (nat_lt s.count (length (index_of s.array))) (is_some (enter (cells_of s.array) (index_of s.array) (path_of w) s.count)) (ap is_some none)
 
   -- what the refusal of the path says
   pub refused_place : (e : PathFault) → refusal (cells_of s.array) (index_of s.array) (path_of w) (s.count + 1) ≡ Some e → (e ≡ NoPlace) × (room_of s w ≡ false)
@@ -191,7 +212,7 @@ pub record Told (s : TrieList) (w : List ℕ) (r : Result ℕ ListFault) (t : Tr
 
 pub told : (s : TrieList) (w : List ℕ) (r : Result ℕ ListFault) (t : TrieList) → label_sized w ≡ true → number_of (roll_of s) w ≡ None → Appends s w r t → Told s w r t
 told s w (Ok n) t sized absent (room, number, placed, grown) = record {
-  answer = ap (λ (k : ℕ). Ok k) (let z : n ≡ length (roll_of s) + 1 = omega (arith, number, length_roll s) in z) ∙ sym (new_answer (roll_of s) (room_of s w) w sized absent room);
+  answer = ap (λ (k : ℕ). Ok k) number ∙ sym (new_answer (roll_of s) (room_of s w) w sized absent room);
   after = leaves_new roll_of Placed s w t (is_new_word (roll_of s) (room_of s w) w) (new_is (roll_of s) (room_of s w) w sized absent room) placed grown (roll_lawful t);
 }
 told s w (Err e) t sized absent (room, fault, same) = record {

@@ -2,3 +2,4 @@ pub mod Paths
 pub mod Rolls
 pub mod Trie
 pub mod Below
+pub mod Meanings

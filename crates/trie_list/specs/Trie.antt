@@ -23,11 +23,11 @@ pub record Walked (s : TrieList) : Type 0 where
   -- a path that has a number is the path of that number's word
   pub only : (p : List ℕ) (number : ℕ) → number_at (cells_of s.array) p ≡ Some number → (numbered (roll_of s) number ≡ true) × (p ≡ path_of (word_of (roll_of s) number))
 
--- room for a word: a number is left, up to 65,535, and the placing rule finds every place of its path
+-- room for a word: there are fewer words than index places, and the placing rule finds every place of its path
 abbrev pub room_of : TrieList → List ℕ → Bool
 room_of s word =
-    nat_lt s.count (min (length (index_of s.array)) 65535)
-    && is_some (enter (cells_of s.array) (index_of s.array) (path_of word) s.count)
+    nat_lt (length (roll_of s)) (length (index_of s.array))
+    && is_some (enter (cells_of s.array) (index_of s.array) (path_of word) (length (roll_of s)))
 
 -- a list newly made of n cells and k index entries: every cell free but the root, every entry 0, and no word
 pub record Made (n k : ℕ) (s : TrieList) : Type 0 where
@@ -35,14 +35,16 @@ pub record Made (n k : ℕ) (s : TrieList) : Type 0 where
   pub cells_clear : (j : ℕ) → j < length (cells_of s.array) → at (cells_of s.array) j ≡ cleared j
   pub index_long : length (index_of s.array) ≡ min k 65535
   pub index_zero : (n : ℕ) → slice_index (index_of s.array) n ≡ 0
-  pub no_words : s.count ≡ 0
+  pub no_words : roll_of s ≡ []
 
--- the list t is s with a word more: its cells and its index are what the placing rule leaves when the path of the word is entered with the next number
+-- the cells and the index of the list t are what the placing rule leaves of those of s when the path of the word is entered
+-- with the next number
 pub record Placed (s : TrieList) (word : List ℕ) (t : TrieList) : Type 0 where
-  pub arrays_after : enter (cells_of s.array) (index_of s.array) (path_of word) s.count ≡ Some (record { cells = cells_of t.array; index = index_of t.array })
-  pub count_after : t.count ≡ s.count + 1
+  pub arrays_after : enter (cells_of s.array) (index_of s.array) (path_of word) (length (roll_of s))
+      ≡ Some (record { cells = cells_of t.array; index = index_of t.array })
 
 -- a new word is entered where there is room, and is then the last of the roll; without room it is refused and nothing changes
 abbrev pub Appends : TrieList → List ℕ → Result ℕ ListFault → TrieList → Type 0
-Appends s word (Ok number) t = (room_of s word ≡ true) × (number ≡ s.count + 1) × Placed s word t × (roll_of t ≡ roll_of s ++ word ∷ [])
+Appends s word (Ok number) t =
+    (room_of s word ≡ true) × (number ≡ length (roll_of s) + 1) × Placed s word t × (roll_of t ≡ roll_of s ++ word ∷ [])
 Appends s word (Err fault) t = (room_of s word ≡ false) × (fault ≡ NoRoom) × (t ≡ s)

@@ -10,17 +10,14 @@ use super::spelling::{codes_of, labels_of, path_of};
 use arrayvec::ArrayVec;
 use cells::Cell;
 use double_array::DoubleArray;
-use lexicon::{GrowingList, ReadableList, has_label_size, is_numbered};
+use lexicon::{GrowingList, MAX_WORDS, ReadableList, has_label_size, is_numbered};
 use refusal::ListFault;
 use subtrie::numbers_below;
 
-// A list has at most as many words as a 16-bit number counts.
-const MAX_WORDS: usize = 65_535;
-
 impl TrieList {
     // A list of no word over a cell array and an index array, which may hold anything: every cell
-    // becomes free but the root, and every index entry 0. Of more than 1,048,576 cells the rest is
-    // given up.
+    // becomes free but the root, and every index entry 0. Of more than 1,048,576 cells and of more
+    // than 65,535 index entries the rest is given up.
     pub fn new(cells: Vec<Cell>, mut index: Vec<u32>) -> TrieList
         ensures { Made (vec_len cells) (vec_len index) result }
     {
@@ -99,7 +96,7 @@ impl TrieList {
         requires absent { number_of (roll_of self.old) word.now ≡ None }
         ensures { Appends self.old word.now result self.new }
     {
-        if self.count >= self.index().len().min(MAX_WORDS) {
+        if self.count >= self.index().len() {
             return Err(ListFault::NoRoom);
         }
         let path = path_of(word);
@@ -139,6 +136,7 @@ impl GrowingList for TrieList {
 
     ghost enters = { Placed };
 
+    #[tactic(auto, using(crate::proofs::Lists::told))]
     fn enter(&mut self, word: &[u8]) -> Result<u16, ListFault> {
         if !has_label_size(word) {
             return Err(ListFault::WordLength);

@@ -6,6 +6,8 @@
 
 mod calls;
 mod list;
+mod meanings;
 mod spelling;
 
 pub use list::TrieList;
+pub use meanings::meaning;

@@ -11,7 +11,7 @@ pub struct TrieList {
     pub(super) array: DoubleArray,
     pub(super) count: usize,
     ghost within: { count ≤ length (index_of array) },
-    ghost few: { count ≤ 65535 },
+    ghost few: { length (index_of array) ≤ 65535 },
     ghost numbered: { Numbered (index_of array) count },
     ghost unnumbered: { Unnumbered (index_of array) count },
     ghost counted: { Counted (cells_of array) count },
