@@ -9,7 +9,7 @@ mod rounding;
 #[cfg(test)]
 mod tests;
 
-ghost use Rattle.std.specs.Prelude.{◌≡◌};
+ghost use Rattle.std.specs.Prelude.{◌≡◌, ◌≤◌, IfOk};
 ghost use Rattle.history.specs.Kits.{state_of};
 ghost use Rattle.store.specs.Links.{word_kit, link_answer};
 ghost use Rattle.share.specs.Rounding.{Nearest};
@@ -28,8 +28,8 @@ use word_triple::WordTriple;
 
 // The share of a present triple in a table of tallies: 1,000,000 times its count, divided by the sum
 // of the counts of all present triples with the same X and the same relation, and rounded to the
-// nearest whole number, a half upward. Refused, in this order: X or Y has no symbol or more than 32,
-// the relation is 0, X or Y is not in the list, the triple is not present.
+// nearest whole number, a half upward; at most 1,000,000. Refused, in this order: X or Y has no
+// symbol or more than 32, the relation is 0, X or Y is not in the list, the triple is not present.
 pub fn share<S: Script, L: ReadableList>(
     table: &RelationTable,
     list: &L,
@@ -37,6 +37,7 @@ pub fn share<S: Script, L: ReadableList>(
     words: WordTriple<'_, S>,
 ) -> Result<u32, Refusal>
     ensures answer { result ≡ share_answer table.now.links records.now words.entry.relation (link_answer (word_kit S.Script L.ReadableList) list.now table.now.links words.entry.x.now words.entry.y.now words.entry.relation) }
+    ensures most { IfOk result (λ n. n ≤ 1000000) }
     ensures nearest { Nearest }
     ensures law { ShareLaw (tally_kit S.Script L.ReadableList) (state_of list.now table.now.links records.now) words.entry.x.now words.entry.y.now words.entry.relation result }
 {

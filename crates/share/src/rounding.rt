@@ -16,7 +16,8 @@ fn rounded(count: u32, total: u64) -> u64
 // The same of a count that is part of the total, and so at most a million.
 pub(super) fn millionths(count: u32, total: u64) -> u32
     requires { total ≤ 2 ^ 48 }
-    ensures { count ≤ total → result ≡ share_of count total }
+    ensures share { count ≤ total → result ≡ share_of count total }
+    ensures most { result ≤ 1000000 }
 {
     rounded(count, total).min(1_000_000) as u32
 }

@@ -32,9 +32,10 @@ returns g c =
     let link = c.in_ok-link.link in
     let total = c.total-total.ensures.sum ∙ ap (λ (s : LinkTable). total_of eqb (present_in s rs) link.x q) c.links.ensures in
     let answer : Ok c.millionths.result ≡ share_answer t rs q (link_answer K l t x y q) =
-    share_is K l t rs x y q link c.in_ok-link.ensures c.millionths.result c.count_at-count.result c.total-total.result c.count_at-count.ensures total c.millionths.ensures in
+    share_is K l t rs x y q link c.in_ok-link.ensures c.millionths.result c.count_at-count.result c.total-total.result c.count_at-count.ensures total c.millionths.ensures.share in
     record {
       answer = answer;
+      most = c.millionths.ensures.most;
       nearest = nearest;
       law = share_law (tally_kit g.S.Script g.L.ReadableList) (words_apart g.S.Script.spelling g.S.Script.width m.narrow.0 m.even m.apart) l t rs x y q (Ok c.millionths.result) answer;
     }
