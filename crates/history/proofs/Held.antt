@@ -29,9 +29,10 @@ triple_at K l e = triple_in K l e.x e.y e.relation
 abbrev pub link_of : {S R : Type 0} → Entry S R → ℕ
 link_of e = e.link
 
--- an entry's words and relation are not refused, and the list has both words
+-- an entry's words and relation are not refused, its record is sound, and the list has both words
 pub record Known {S L R : Type 0} (K : Kit S L R) (l : L) (e : Entry S R) : Type 0 where
   pub fit : first (word_refusals e.x e.y e.relation) ≡ None
+  pub sound : K.good e.kept ≡ true
   pub a : ℕ
   pub b : ℕ
   pub x_number : number_in K l e.x ≡ Some a
@@ -106,7 +107,7 @@ module _ {S L R : Type 0} (K : Kit S L R) where
   module _ (l l' : L) (grows : Grows K l l') where
     -- known words stay known
     known_grown : (e : Entry S R) → Known K l e → Known K l' e
-    known_grown e k = record { fit = k.fit; a = k.a; b = k.b; x_number = grows e.x k.a k.x_number; y_number = grows e.y k.b k.y_number }
+    known_grown e k = record { fit = k.fit; sound = k.sound; a = k.a; b = k.b; x_number = grows e.x k.a k.x_number; y_number = grows e.y k.b k.y_number }
 
     -- and triples stay the same
     triple_grown : (e : Entry S R) → Known K l e → triple_at K l' e ≡ triple_at K l e
@@ -243,8 +244,8 @@ module _ {S L R : Type 0} (K : Kit S L R) where
             ∙ kept_map link_of (λ v. not (eqb v u)) (λ e. not (same_triple K x y q e)) es (λ e i. ap not (by_link e i));
       }
 
-    -- a record is written
-    module _ (u : ℕ) (r : R) (c : Triple) (is : coded t u ≡ Some c) where
+    -- a sound record is written
+    module _ (u : ℕ) (r : R) (good : K.good r ≡ true) (c : Triple) (is : coded t u ≡ Some c) where
       -- the rest of the entry stays
       rewritten_part : {Y : Type 0} (f : Entry S R → Y) → ((e : Entry S R) → f (entry_of e.x e.y e.relation e.link r) ≡ f e) → (e : Entry S R) → f (rewritten u r e) ≡ f e
       rewritten_part f same e = cond_both (eqb e.link u) (entry_of e.x e.y e.relation e.link r) e (λ (z : Entry S R). f z ≡ f e) (λ _. same e) (λ _. refl)
@@ -263,7 +264,7 @@ module _ {S L R : Type 0} (K : Kit S L R) where
           let low = (link_bounds e i).0 in
           cond_both (eqb e.link u) (entry_of e.x e.y e.relation e.link r) e (Stands K l t (set rs (u - 1) r))
           (λ z. record {
-            known = record { fit = k.fit; a = k.a; b = k.b; x_number = k.x_number; y_number = k.y_number };
+            known = record { fit = k.fit; sound = good; a = k.a; b = k.b; x_number = k.x_number; y_number = k.y_number };
             held = h.held;
             kept = ap (λ (v : ℕ). slice_get (set rs (u - 1) r) (v - 1)) (eqb-true e.link u z) ∙ nth_set rs (u - 1) r (omega (arith, range.0, range.1, F.enough));
           })

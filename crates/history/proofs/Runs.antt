@@ -200,6 +200,7 @@ law_of K {h} {s} run =
       figure = counts K F;
       tally = H.tally;
       once = once_of K F;
+      sound = λ e i. (F.stands e i).known.sound;
       answers = answers_of K F;
       in_use = in_use_of K F;
       walks = walks_of K F;

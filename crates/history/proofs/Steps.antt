@@ -77,7 +77,14 @@ module _ {S L R : Type 0} (K : Kit S L R) {es : List (Entry S R)} {us : List ℕ
           let c = none_applies (tie_refusals x y q (K.good r) (number_in K s.list x) (number_in K s.list y) (held_in K s.list s.table x y q) (all_held s.table) (place_in K s.list s.table x y q)) z in
           let a = some_is (number_in K s.list x) (not-false (is_some (number_in K s.list x)) c.1.1.1.1.0) in
           let b = some_is (number_in K s.list y) (not-false (is_some (number_in K s.list y)) c.1.1.1.1.1.0) in
-          record { fit = applies_none (word_refusals x y q) (c.0, (c.1.0, (c.1.1.0, tt))); a = a.0; b = b.0; x_number = a.1; y_number = b.1 }
+          record {
+            fit = applies_none (word_refusals x y q) (c.0, (c.1.0, (c.1.1.0, tt)));
+            sound = not-false (K.good r) c.1.1.1.0;
+            a = a.0;
+            b = b.0;
+            x_number = a.1;
+            y_number = b.1;
+          }
 
   -- the list after an add, with the table and the records as they were
   pub add_grown : (room : L → List ℕ → Bool) (enters : L → List ℕ → L → Type 0) (s t : State L R) (x y : List S) (q : ℕ) (r : R) (m : Result Link Refusal) → Held K es us p d s → (k : Adds K room enters s x y q r m t)
@@ -106,6 +113,7 @@ module _ {S L R : Type 0} (K : Kit S L R) {es : List (Entry S R)} {us : List ℕ
           (and_from (fine K x y q r) (not (lacks K room s.list x)) well (not_from_false (lacks K room s.list x) x_fits)) y_fits in
           record {
             fit = applies_none (word_refusals x y q) (c.0, (c.1.0, (c.1.1.0, tt)));
+            sound = not-false (K.good r) c.1.1.1.0;
             a = a.0;
             b = b.0;
             x_number = grows_from K enters k.mid k.last y _ k.y_entered x a.0 a.1;
@@ -139,9 +147,11 @@ module _ {S L R : Type 0} (K : Kit S L R) {es : List (Entry S R)} {us : List ℕ
       go : (o : Option Refusal) → refusal_of_change K t u r ≡ o → Decided o rs m rs' ((m ≡ Ok tt) × (rs' ≡ set rs (u - 1) r)) → Done n
       go (Some f) z k = subst Done (sym (e ∙ ap (replied (λ _. Changed)) k.0)) (subst (λ (w : List R). Held K es us p d (state_of l t w)) (sym k.1) H)
       go None z k =
-          let c = some_is (coded t u) (not-false (is_some (coded t u)) (none_applies (change_refusals (is_some (coded t u)) (K.good r)) z).0) in
+          let fine = none_applies (change_refusals (is_some (coded t u)) (K.good r)) z in
+          let c = some_is (coded t u) (not-false (is_some (coded t u)) fine.0) in
+          let good = not-false (K.good r) fine.1.0 in
           subst Done (sym (e ∙ ap (replied (λ _. Changed)) k.0)) (subst (λ (w : List R). Held K (map (rewritten u r) es) us p d (state_of l t w)) (sym k.1)
-          (record { fits = change_fits K H.fits u r c.0 c.1; tally = omega (arith, H.tally, length-map es (rewritten u r)) }))
+          (record { fits = change_fits K H.fits u r good c.0 c.1; tally = omega (arith, H.tally, length-map es (rewritten u r)) }))
 
   -- each call
   step_held : (room : L → List ℕ → Bool) (s t : State L R) (out out' : List LinkRow) (c : Call S R) (n : Result (Reply R) Refusal) → Held K es us p d s → Steps K room anything s out c n t out'
