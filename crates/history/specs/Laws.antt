@@ -92,7 +92,7 @@ module _ {S L R : Type 0} (K : Kit S L R) where
     pub tally : length (present K h) + deletes h ≡ puts h
     -- no two entries are of one triple
     pub once : (e f : Entry S R) → In (present K h) e → In (present K h) f → same_triple K f.x f.y f.relation e ≡ true → e ≡ f
-    -- the record of each is sound
+    -- the record of each entry is sound
     pub sound : (e : Entry S R) → In (present K h) e → K.good e.kept ≡ true
     -- each of them is read by its number and found by its words
     pub answers : (e : Entry S R) → In (present K h) e → Answers s e

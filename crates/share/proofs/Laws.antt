@@ -1,12 +1,13 @@
 -- The share is that of the present triples.
-use Rattle.std.proofs.Common.{◌≡◌, ℕ, zero, suc, Bool, true, false, not, ◌&&◌, eqb, List, map, Some, None, Ok, sum_by, Option, Result, unwrap_or, sym, refl, ap, ◌∙◌, subst, le_of_eq, le_antisymm}
+use Rattle.std.proofs.Common.{◌≡◌, ℕ, zero, suc, ◌≤◌, Bool, true, false, not, ◌&&◌, leb, eqb, List, map, Some, None, Ok, sum_by, filter, Option, Result, unwrap_or, sym, refl, ap, ◌∙◌, subst, le_of_eq, le_trans, le_antisymm}
 use Rattle.std.proofs.lemmas.Slice.Eq.{bytes_eq-Decides}
-use Rattle.std.proofs.lemmas.Bool.{and_parts, eqb-true, eqb-false}
+use Rattle.std.proofs.lemmas.Bool.{and_parts, and_from, leb-true, eqb-true, eqb-false}
 use Rattle.refusal.specs.declared.Refusal.{Refusal}
 use Rattle.script.specs.Words.{word_sized, WordsApart}
+use Rattle.record.specs.Soundness.{sound_tally}
 use Rattle.record.specs.declared.Tally.{Tally}
 use Rattle.cells.specs.Trees.{In, Apart}
-use Rattle.cells.proofs.Pigeons.{from_kept, apart_kept, sums_under}
+use Rattle.cells.proofs.Pigeons.{in_kept, from_kept, apart_kept, part_of_sum, sums_under}
 use Rattle.link_table.specs.Tables.{found}
 use Rattle.link_table.specs.declared.table.LinkTable.{LinkTable}
 use Rattle.listing.specs.Rows.{rows_of}
@@ -17,14 +18,14 @@ use Rattle.history.specs.declared.replies.Link.{Link}
 use Rattle.history.specs.Kits.{Kit, state_of, labels_of, number_in, triple_in}
 use Rattle.history.specs.Refusals.{first, none, word_refusals, delete_refusals}
 use Rattle.history.specs.Calls.{answered, link_in, held_in, refusal_of_delete}
-use Rattle.history.specs.Runs.{Entry, same_word, same_triple}
+use Rattle.history.specs.Runs.{Entry, same_word, same_triple, present}
 use Rattle.history.specs.Laws.{Unless, asks, entries_of}
 use Rattle.history.proofs.Members.{apart_from, kept_map}
 use Rattle.history.proofs.Options.{none_applies, applies_none}
 use Rattle.history.proofs.Held.{link_of, Fits, triple_from, same_link}
 use Rattle.history.proofs.Steps.{held_of}
 use Rattle.history.proofs.Listings.{rising_apart, row_same, listing_of}
-use Rattle.history.proofs.Runs.{held_is}
+use Rattle.history.proofs.Runs.{held_is, law_of}
 use Rattle.store.specs.Links.{link_answer}
 use Rattle.share.specs.Rounding.{share_of}
 use Rattle.share.specs.Shares.{count_of, count_at, sum_at, present_in, share_answer}
@@ -32,6 +33,24 @@ use Rattle.share.specs.Totals.{Counted, total_of}
 use Rattle.share.specs.Laws.{counted, ShareLaw}
 use Rattle.share.proofs.Present.{rows_total}
 use Rattle.share.proofs.Sums.{sum_map}
+
+-- the total is the sum of the counts of the entries that have the word and the relation
+total_entries : {S L : Type 0} (K : Kit S L Tally) (es : List (Entry S Tally)) (x : List S) (q : ℕ)
+    → total_of (same_word K) (map counted es) x q ≡ sum_by (λ e. e.kept.count) (filter (λ e. same_word K e.x x && eqb e.relation q) es)
+total_entries {S} K es x q =
+    let has : Counted (List S) → Bool = λ c. same_word K c.x x && eqb c.relation q in
+    let asked : Entry S Tally → Bool = λ e. has (counted e) in
+    ap (sum_by (λ (c : Counted (List S)). c.count)) (kept_map counted has asked es (λ e i. refl)) ∙ sum_map counted (λ (c : Counted (List S)). c.count) (filter asked es)
+
+-- the count of an entry of the triple is a part of it
+part_of_entries : {S L : Type 0} (K : Kit S L Tally) (es : List (Entry S Tally)) (x y : List S) (q : ℕ) (e : Entry S Tally) → In es e → same_triple K x y q e ≡ true
+    → e.kept.count ≤ total_of (same_word K) (map counted es) x q
+part_of_entries {S} K es x y q e i same =
+    let asked : Entry S Tally → Bool = λ d. same_word K d.x x && eqb d.relation q in
+    let one = and_parts (same_word K e.x x) (same_word K e.y y && eqb e.relation q) same in
+    let two = and_parts (same_word K e.y y) (eqb e.relation q) one.1 in
+    let there = in_kept asked es e (and_from (same_word K e.x x) (eqb e.relation q) one.0 two.1) i in
+    subst (λ (n : ℕ). e.kept.count ≤ n) (sym (total_entries K es x q)) (part_of_sum (λ (d : Entry S Tally). d.kept.count) (filter asked es) e there)
 
 module _ {S L : Type 0} (K : Kit S L Tally) {es : List (Entry S Tally)} {us : List ℕ} {l : L} {t : LinkTable} {records : List Tally} (F : Fits K es us l t records) where
   -- the count at an entry's number is its own
@@ -80,17 +99,18 @@ module _ {S L : Type 0} (K : Kit S L Tally) {es : List (Entry S Tally)} {us : Li
   pub same_total : (x : List S) (q a : ℕ) → eqb q 0 ≡ false → number_in K l x ≡ Some a → total_of eqb (present_in t records) (unwrap_or (number_in K l x) 0) q ≡ total_of (same_word K) (map counted es) x q
   same_total x zero a some number = absurd (eqb-false 0 0 some refl)
   same_total x (suc q) a some number =
-      let has : Counted (List S) → Bool = λ c. same_word K c.x x && eqb c.relation (suc q) in
-      sym (rows_total t records (unwrap_or (number_in K l x) 0) (suc q))
-      ∙ same_sums x (suc q) a number
-      ∙ sym (ap (sum_by (λ (c : Counted (List S)). c.count)) (kept_map counted has (λ e. has (counted e)) es (λ e i. refl)) ∙ sum_map counted (λ (c : Counted (List S)). c.count) (entries_of K es x (suc q)))
+      sym (rows_total t records (unwrap_or (number_in K l x) 0) (suc q)) ∙ same_sums x (suc q) a number ∙ sym (total_entries K es x (suc q))
+
+-- a sound tally counts at least 1
+sound_some : (tally : Tally) → sound_tally tally ≡ true → 1 ≤ tally.count
+sound_some tally e = leb-true 1 tally.count (and_parts (leb 1 tally.count) (leb tally.count 1000000000) e).0
 
 -- an answer that is given unless a refusal applies, as a share
 unless_share : (t : LinkTable) (records : List Tally) (k : ℕ) (o : Option Refusal) (v : Link) → Unless o (share_answer t records k (answered o v))
 unless_share t records k (Some f) v = refl
 unless_share t records k None v = refl
 
-module _ {S L : Type 0} (K : Kit S L Tally) (apart : WordsApart K.spelling) (l : L) (t : LinkTable) (records : List Tally) (x y : List S) (q : ℕ) where
+module _ {S L : Type 0} (K : Kit S L Tally) (apart : WordsApart K.spelling) (good : (tally : Tally) → K.good tally ≡ true → sound_tally tally ≡ true) (l : L) (t : LinkTable) (records : List Tally) (x y : List S) (q : ℕ) where
   -- the refusals, judged by the table
   abbrev refusal : Option Refusal
   refusal = refusal_of_delete K l t x y q
@@ -130,6 +150,7 @@ module _ {S L : Type 0} (K : Kit S L Tally) (apart : WordsApart K.spelling) (l :
         ∙ ap (share_answer t records q) k.0
         ∙ ap (λ (c : ℕ). Ok (share_of c (total_of eqb (present_in t records) (unwrap_or (number_in K l x) 0) q))) (count_is K F e i)
         ∙ ap (λ (n : ℕ). Ok (share_of e.kept.count n)) (same_total K F x q k.2.0 k.1 k.2.1);
+    positive = λ h run e i same. le_trans (sound_some e.kept (good e.kept ((law_of K run).sound e i))) (part_of_entries K (present K h) x y q e i same);
     refused = λ h run.
         subst (λ (b : Bool). Unless (first (delete_refusals x y q (number_in K l x) (number_in K l y) b)) r) (held_is K (held_of K run).fits x y q)
         (subst (Unless refusal) (sym answer) (unless_share t records q refusal (link_in K l x y (unwrap_or (found t (triple_in K l x y q)) 0))));

@@ -13,7 +13,7 @@ use Rattle.share.proofs.share.Goals as goal
 pub returns-in_err-link-clause-law : goal.returns-in_err-link-clause-law
 returns-in_err-link-clause-law g c =
     let m = g.met.S.Script in
-    share_law (tally_kit g.S.Script g.L.ReadableList) (words_apart g.S.Script.spelling g.S.Script.width m.narrow.0 m.even m.apart)
+    share_law (tally_kit g.S.Script g.L.ReadableList) (words_apart g.S.Script.spelling g.S.Script.width m.narrow.0 m.even m.apart) (λ _ e. e)
     c.args.list.now c.args.table.now.links c.args.records.now c.args.words.x.now c.args.words.y.now c.args.words.relation c.from_residual.result (search rules)
 
 pub returns-in_err-link-clause-nearest : goal.returns-in_err-link-clause-nearest
@@ -37,5 +37,5 @@ returns g c =
       answer = answer;
       most = c.millionths.ensures.most;
       nearest = nearest;
-      law = share_law (tally_kit g.S.Script g.L.ReadableList) (words_apart g.S.Script.spelling g.S.Script.width m.narrow.0 m.even m.apart) l t rs x y q (Ok c.millionths.result) answer;
+      law = share_law (tally_kit g.S.Script g.L.ReadableList) (words_apart g.S.Script.spelling g.S.Script.width m.narrow.0 m.even m.apart) (λ _ e. e) l t rs x y q (Ok c.millionths.result) answer;
     }
