@@ -26,7 +26,7 @@ fn make<'a, S: Script, L: ReadableList, R: Record>(
     out: &mut [LinkRow],
     request: Request<'a, S, R>,
 ) -> Result<Reply<R>, Refusal>
-    ensures { Steps (kit_of S.Script L.ReadableList R.Record) (λ _ _. false) anything (state_of list.now table.old.links records.old) out.old (call_of request.entry) result (state_of list.now table.new.links records.new) out.new }
+    ensures { Steps (kit_of S.Script L.ReadableList R.Record) (λ _ _. false) anything (state_of list.now table.old records.old) out.old (call_of request.entry) result (state_of list.now table.new records.new) out.new }
 {
     // `?` and not `map`: the checker follows no case of the generic `Reply` as a function.
     match request {
@@ -55,8 +55,8 @@ pub fn perform<'a, S: Script, L: ReadableList, R: Record>(
     out: &mut [LinkRow],
     request: Request<'a, S, R>,
 ) -> Result<Reply<R>, Refusal>
-    ensures step { Steps (kit_of S.Script L.ReadableList R.Record) (λ _ _. false) anything (state_of list.now table.old.links records.old) out.old (call_of request.entry) result (state_of list.now table.new.links records.new) out.new }
-    ensures law { Onward (kit_of S.Script L.ReadableList R.Record) (state_of list.now table.old.links records.old) (call_of request.entry) result (state_of list.now table.new.links records.new) }
+    ensures step { Steps (kit_of S.Script L.ReadableList R.Record) (λ _ _. false) anything (state_of list.now table.old records.old) out.old (call_of request.entry) result (state_of list.now table.new records.new) out.new }
+    ensures law { Onward (kit_of S.Script L.ReadableList R.Record) (state_of list.now table.old records.old) (call_of request.entry) result (state_of list.now table.new records.new) }
 {
     make(table, list, records, out, request)
 }
@@ -69,7 +69,7 @@ fn make_growing<'a, S: Script, L: GrowingList, R: Record>(
     out: &mut [LinkRow],
     request: GrowingRequest<'a, S, R>,
 ) -> Result<Reply<R>, Refusal>
-    ensures { Steps (kit_of S.Script L.ReadableList R.Record) L.GrowingList.room L.GrowingList.enters (state_of list.old table.old.links records.old) out.old (growing_call_of request.entry) result (state_of list.new table.new.links records.new) out.new }
+    ensures { Steps (kit_of S.Script L.ReadableList R.Record) L.GrowingList.room L.GrowingList.enters (state_of list.old table.old records.old) out.old (growing_call_of request.entry) result (state_of list.new table.new records.new) out.new }
 {
     match request {
         GrowingRequest::Add { words, record } => {
@@ -87,8 +87,8 @@ pub fn perform_growing<'a, S: Script, L: GrowingList, R: Record>(
     out: &mut [LinkRow],
     request: GrowingRequest<'a, S, R>,
 ) -> Result<Reply<R>, Refusal>
-    ensures step { Steps (kit_of S.Script L.ReadableList R.Record) L.GrowingList.room L.GrowingList.enters (state_of list.old table.old.links records.old) out.old (growing_call_of request.entry) result (state_of list.new table.new.links records.new) out.new }
-    ensures law { Onward (kit_of S.Script L.ReadableList R.Record) (state_of list.old table.old.links records.old) (growing_call_of request.entry) result (state_of list.new table.new.links records.new) }
+    ensures step { Steps (kit_of S.Script L.ReadableList R.Record) L.GrowingList.room L.GrowingList.enters (state_of list.old table.old records.old) out.old (growing_call_of request.entry) result (state_of list.new table.new records.new) out.new }
+    ensures law { Onward (kit_of S.Script L.ReadableList R.Record) (state_of list.old table.old records.old) (growing_call_of request.entry) result (state_of list.new table.new records.new) }
 {
     make_growing(table, list, records, out, request)
 }

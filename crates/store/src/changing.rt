@@ -29,7 +29,7 @@ impl RelationTable {
         words: WordTriple<'_, S>,
         record: R,
     ) -> Result<Link, Refusal>
-        ensures { Adds (kit_of S.Script L.ReadableList R.Record) L.GrowingList.room L.GrowingList.enters (state_of list.old self.old.links records.old) words.entry.x.now words.entry.y.now words.entry.relation «record» result (state_of list.new self.new.links records.new) }
+        ensures { Adds (kit_of S.Script L.ReadableList R.Record) L.GrowingList.room L.GrowingList.enters (state_of list.old self.old records.old) words.entry.x.now words.entry.y.now words.entry.relation «record» result (state_of list.new self.new records.new) }
     {
         let pair = admit(words, &record)?;
         let x = enter(list, &pair.x, Side::First)?;
@@ -48,7 +48,7 @@ impl RelationTable {
         words: WordTriple<'_, S>,
         record: R,
     ) -> Result<Link, Refusal>
-        ensures { Ties (kit_of S.Script L.ReadableList R.Record) (state_of list.now self.old.links records.old) words.entry.x.now words.entry.y.now words.entry.relation «record» result (state_of list.now self.new.links records.new) }
+        ensures { Ties (kit_of S.Script L.ReadableList R.Record) (state_of list.now self.old records.old) words.entry.x.now words.entry.y.now words.entry.relation «record» result (state_of list.now self.new records.new) }
     {
         let pair = admit(words, &record)?;
         let triple = known_triple(list, &pair, words.relation)?;
@@ -63,7 +63,7 @@ impl RelationTable {
         list: &L,
         words: WordTriple<'_, S>,
     ) -> Result<u32, Refusal>
-        ensures { Deletes (word_kit S.Script L.ReadableList) list.now self.old.links words.entry.x.now words.entry.y.now words.entry.relation result self.new.links }
+        ensures { Deletes (word_kit S.Script L.ReadableList) list.now self.old words.entry.x.now words.entry.y.now words.entry.relation result self.new }
     {
         let pair = spell_pair(words)?;
         let triple = known_triple(list, &pair, words.relation)?;
@@ -79,7 +79,7 @@ impl RelationTable {
         link: u32,
         record: R,
     ) -> Result<(), Refusal>
-        ensures records { Changes (record_kit R.Record) self.old.links records.old link «record» result records.new }
+        ensures records { Changes (record_kit R.Record) self.old records.old link «record» result records.new }
         ensures table { self.new ≡ self.old }
     {
         if self.links.triple_of(link).is_none() {

@@ -28,7 +28,7 @@ impl RelationTable {
         triple: Triple,
         record: R,
     ) -> Result<Link, Refusal>
-        ensures { Joins self.old.links records.old triple «record» result self.new.links records.new }
+        ensures { Joins self.old records.old triple «record» result self.new records.new }
     {
         let number = self.links.put(triple)?;
         write_record(records, number, record);

@@ -22,9 +22,9 @@ impl RelationTable {
         cells: Vec<Cell>,
         index: Vec<u32>,
     ) -> RelationTable
-        ensures made { Made (vec_len cells) (vec_len index) (length records.now) result.links }
-        ensures start { Reached (kit_of S.Script L.ReadableList R.Record) [] (state_of list.now result.links records.now) }
-        ensures law { Law (kit_of S.Script L.ReadableList R.Record) [] (state_of list.now result.links records.now) }
+        ensures made { Made (vec_len cells) (vec_len index) (length records.now) result }
+        ensures start { Reached (kit_of S.Script L.ReadableList R.Record) [] (state_of list.now result records.now) }
+        ensures law { Law (kit_of S.Script L.ReadableList R.Record) [] (state_of list.now result records.now) }
     {
         let _ = list.count();
         RelationTable {
@@ -34,7 +34,7 @@ impl RelationTable {
 
     // The link table in word numbers, with its cells and its index, to look at.
     pub fn links(&self) -> &LinkTable
-        ensures { result.now ≡ self.now.links }
+        ensures { result.now ≡ self.now }
     {
         &self.links
     }

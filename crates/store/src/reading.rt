@@ -33,7 +33,7 @@ impl RelationTable {
         list: &L,
         words: WordTriple<'_, S>,
     ) -> Result<Option<Link>, Refusal>
-        ensures { result ≡ find_of (word_kit S.Script L.ReadableList) list.now self.now.links words.entry.x.now words.entry.y.now words.entry.relation }
+        ensures { result ≡ find_of (word_kit S.Script L.ReadableList) list.now self.now words.entry.x.now words.entry.y.now words.entry.relation }
     {
         let pair = spell_pair(words)?;
         // By `let else`, here and below: none is the answer then and no refusal, which `?` cannot say.
@@ -56,7 +56,7 @@ impl RelationTable {
         list: &L,
         words: WordTriple<'_, S>,
     ) -> Result<Link, Refusal>
-        ensures { result ≡ link_answer (word_kit S.Script L.ReadableList) list.now self.now.links words.entry.x.now words.entry.y.now words.entry.relation }
+        ensures { result ≡ link_answer (word_kit S.Script L.ReadableList) list.now self.now words.entry.x.now words.entry.y.now words.entry.relation }
     {
         let pair = spell_pair(words)?;
         let triple = known_triple(list, &pair, words.relation)?;
@@ -70,7 +70,7 @@ impl RelationTable {
 
     // The triple that has the link number, and its record. Refused: no present triple has it.
     pub fn read<R: Record>(&self, records: &[R], link: u32) -> Result<Reading<R>, Refusal>
-        ensures { result ≡ read_of self.now.links records.now link }
+        ensures { result ≡ read_of self.now records.now link }
     {
         let triple = self.links.triple_of(link).ok_or(Refusal::UnknownLink)?;
         let record = record_at(records, link).ok_or(Refusal::UnknownLink)?;
@@ -88,7 +88,7 @@ impl RelationTable {
         relation: u8,
         out: &mut [LinkRow],
     ) -> Result<usize, Refusal>
-        ensures { Lists (word_kit S.Script L.ReadableList) list.now self.now.links x.now relation out.old result out.new }
+        ensures { Lists (word_kit S.Script L.ReadableList) list.now self.now x.now relation out.old result out.new }
     {
         let word = spell(x, Side::First)?;
         let number = number_in(list, &word).ok_or(Refusal::UnknownWord(Side::First))?;
@@ -97,7 +97,7 @@ impl RelationTable {
 
     // How many triples are present, and how many link cells are in use.
     pub fn figures(&self) -> Figures
-        ensures { result ≡ figures_of self.now.links }
+        ensures { result ≡ figures_of self.now }
     {
         Figures {
             triples: self.links.count(),

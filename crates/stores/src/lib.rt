@@ -27,9 +27,9 @@ pub fn new_store<S: Script, L: ReadableList, R: Record>(
     cells: Vec<Cell>,
     index: Vec<u32>,
 ) -> RelationTable
-    ensures made { Made (vec_len cells) (vec_len index) (length records.now) result.links }
-    ensures start { Reached (kit_of S.Script L.ReadableList R.Record) [] (state_of list.now result.links records.now) }
-    ensures law { Law (kit_of S.Script L.ReadableList R.Record) [] (state_of list.now result.links records.now) }
+    ensures made { Made (vec_len cells) (vec_len index) (length records.now) result }
+    ensures start { Reached (kit_of S.Script L.ReadableList R.Record) [] (state_of list.now result records.now) }
+    ensures law { Law (kit_of S.Script L.ReadableList R.Record) [] (state_of list.now result records.now) }
     ensures byte_text { ByteTextBegins }
 {
     RelationTable::new::<S, L, R>(list, records, cells, index)

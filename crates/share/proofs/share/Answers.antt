@@ -14,7 +14,7 @@ pub returns-in_err-link-clause-law : goal.returns-in_err-link-clause-law
 returns-in_err-link-clause-law g c =
     let m = g.met.S.Script in
     share_law (tally_kit g.S.Script g.L.ReadableList) (words_apart g.S.Script.spelling g.S.Script.width m.narrow.0 m.even m.apart) (λ _ e. e)
-    c.args.list.now c.args.table.now.links c.args.records.now c.args.words.x.now c.args.words.y.now c.args.words.relation c.from_residual.result (search rules)
+    c.args.list.now c.args.table.now c.args.records.now c.args.words.x.now c.args.words.y.now c.args.words.relation c.from_residual.result (search rules)
 
 pub returns-in_err-link-clause-nearest : goal.returns-in_err-link-clause-nearest
 returns-in_err-link-clause-nearest g c = nearest
@@ -22,7 +22,7 @@ returns-in_err-link-clause-nearest g c = nearest
 pub returns : goal.returns
 returns g c =
     let l = c.args.list.now in
-    let t = c.args.table.now.links in
+    let t = c.args.table.now in
     let rs = c.args.records.now in
     let x = c.args.words.x.now in
     let y = c.args.words.y.now in

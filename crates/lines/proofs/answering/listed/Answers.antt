@@ -17,6 +17,6 @@ returns c =
       c.listed_answer.ensures
           ∙ ap (λ (rs : List Tally). listed_text rs rows' c.perform_growing-reply.result) same
           ∙ ap (listed_text c.args.records.now rows') step.1
-          ∙ listing_said c.args.records.now c.args.x.now (number_in trie_tally_kit c.args.list.now c.args.x.now) (rows_in trie_tally_kit c.args.list.now c.args.table.now.links c.args.x.now c.args.relation) rows rows' step.0 refl step.2,
+          ∙ listing_said c.args.records.now c.args.x.now (number_in trie_tally_kit c.args.list.now c.args.x.now) (rows_in trie_tally_kit c.args.list.now c.args.table.now c.args.x.now c.args.relation) rows rows' step.0 refl step.2,
       step.3,
     )

@@ -5,16 +5,18 @@ use Rattle.store.proofs.table.RelationTable.link_of.Goals as goal
 
 pub returns-in_err-number : goal.returns-in_err-number
 returns-in_err-number g c =
-    let K = word_kit g.S.Script g.L.ReadableList in
+    rw (← c.self.view_is)
+    (let K = word_kit g.S.Script g.L.ReadableList in
     let m = c.in_ok-pair.ensures in
     let k = known_words K c.args.list.now c.args.words.x.now c.args.words.y.now c.args.words.relation c.in_ok-pair.pair (Ok c.in_ok-triple.triple) m.1 c.in_ok-triple.ensures in
-    let is = link_known K c.args.list.now c.args.self.now.links c.args.words.x.now c.args.words.y.now c.args.words.relation m.0 c.in_ok-triple.triple k in
-    rw is (search rules)
+    let is = link_known K c.args.list.now c.self.inside.links c.args.words.x.now c.args.words.y.now c.args.words.relation m.0 c.in_ok-triple.triple k in
+    rw is (search rules))
 
 pub returns : goal.returns
 returns g c =
-    let K = word_kit g.S.Script g.L.ReadableList in
+    rw (← c.self.view_is)
+    (let K = word_kit g.S.Script g.L.ReadableList in
     let m = c.in_ok-pair.ensures in
     let k = known_words K c.args.list.now c.args.words.x.now c.args.words.y.now c.args.words.relation c.in_ok-pair.pair (Ok c.in_ok-triple.triple) m.1 c.in_ok-triple.ensures in
-    let is = link_known K c.args.list.now c.args.self.now.links c.args.words.x.now c.args.words.y.now c.args.words.relation m.0 c.in_ok-triple.triple k in
-    rw is (search rules)
+    let is = link_known K c.args.list.now c.self.inside.links c.args.words.x.now c.args.words.y.now c.args.words.relation m.0 c.in_ok-triple.triple k in
+    rw is (search rules))
