@@ -7,7 +7,7 @@ use Rattle.std.specs.Result.{result_map_both}
 use Rattle.refusal.specs.declared.Report.{Report}
 use Rattle.refusal.specs.Reports.{report_of, report_text}
 use Rattle.script.specs.Words.{word_sized, spelled}
-use Rattle.lexicon.specs.Rolls.{number_of}
+use Rattle.lexicon.specs.Rolls.{number_of, word_of, numbered}
 use Rattle.entry.specs.declared.Entry.{Entry}
 use Rattle.entry.specs.declared.Entry.TheVariants.{New, Held}
 use Rattle.entry.specs.declared.Reply.{Reply}
@@ -36,6 +36,10 @@ pub record KeepsNumbers {S : Type 0} (spelling : S → List ℕ) (before : List 
   pub only : (v : List S) (n : ℕ) → number_of after (spelled spelling v) ≡ Some n → (number_of before (spelled spelling v) ≡ Some n) ⊎ (v ≡ word)
   -- the word entered has the number that is answered
   pub entered : IfOk answer (λ entry. number_of after (spelled spelling word) ≡ Some (number_in entry))
+
+-- how many labels the word of a number has; 0 where no word has the number
+abbrev pub labels_at : List (List ℕ) → ℕ → ℕ
+labels_at roll number = cond (numbered roll number) (length (word_of roll number)) 0
 
 -- how many labels the words have together
 abbrev pub labels_in : List (List ℕ) → ℕ

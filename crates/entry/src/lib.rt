@@ -4,12 +4,12 @@
 // The rules stand in docs/WORD_LISTS.md, "Entering a word of a script".
 #![tactic(auto)]
 
-ghost use Rattle.std.specs.Prelude.{◌≡◌, ◌≤◌, true, ◌&&◌, length, Some};
+ghost use Rattle.std.specs.Prelude.{◌≡◌, ◌≤◌, ◌&&◌, Some};
 ghost use Rattle.std.specs.Option.{option_map};
 ghost use Rattle.lexicon.specs.Answers.{is_new, EnterLeaves};
-ghost use Rattle.lexicon.specs.Rolls.{numbered, word_of, Lawful};
+ghost use Rattle.lexicon.specs.Rolls.{Lawful};
 ghost use Rattle.script.specs.Words.{word_sized, spelled};
-ghost use Rattle.entry.specs.Entries.{entry_answer, KeepsNumbers, labels_in, line_of, asked_of, reply_of, reply_text};
+ghost use Rattle.entry.specs.Entries.{entry_answer, KeepsNumbers, labels_at, labels_in, line_of, asked_of, reply_of, reply_text};
 
 use lexicon::{GrowingList, ReadableList};
 use refusal::{Refusal, Report};
@@ -46,7 +46,7 @@ pub fn enter_word<S: Script, L: GrowingList>(list: &mut L, word: &[S]) -> Result
 fn labels_of<L: ReadableList>(list: &L, number: u16) -> usize
     requires { Lawful (L.ReadableList.roll list.now) }
     ensures few { result ≤ 128 }
-    ensures labels { numbered (L.ReadableList.roll list.now) number ≡ true → result ≡ length (word_of (L.ReadableList.roll list.now) number) }
+    ensures labels { result ≡ labels_at (L.ReadableList.roll list.now) number }
 {
     let mut word = [0u8; 128];
     list.spell(number, &mut word).unwrap_or(0)
