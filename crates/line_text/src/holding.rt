@@ -2,10 +2,7 @@
 ghost use Rattle.std.specs.Prelude.{◌≡◌, ◌≤◌, [], ◌∷◌, ◌++◌, length, if◌then◌else◌, Ok, Err, nat_lt};
 ghost use Rattle.line_text.specs.Texts.{rows_in};
 
-use super::rows::{LineRow, LineRows};
-
-// The most rows that a listing holds.
-const ROW_PLACES: usize = 100;
+use super::rows::{LineRow, LineRows, ROW_PLACES};
 
 impl LineRows {
     // No rows yet.
@@ -13,7 +10,7 @@ impl LineRows {
         ensures { rows_in result ≡ [] }
     {
         LineRows {
-            rows: [LineRow::default(); 100],
+            rows: [LineRow::default(); ROW_PLACES],
             count: 0,
         }
     }

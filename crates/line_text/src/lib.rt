@@ -19,14 +19,14 @@ mod rows;
 #[cfg(test)]
 mod tests;
 
-pub use rows::{LineRow, LineRows};
+pub use rows::{LineRow, LineRows, ROW_PLACES};
 
 // The least bytes that an output has.
-const TEXT_BYTES: usize = 4096;
+pub const TEXT_BYTES: usize = 4096;
 
 // A text as it is put together. That is done by functions that cannot fail and not by `Display`: its
 // contract does not say that it succeeds, and `write_answer` promises a text for every answer.
-type Text = ArrayVec<u8, 4096>;
+type Text = ArrayVec<u8, TEXT_BYTES>;
 
 // What a command answers.
 #[derive(Clone, Copy)]

@@ -9,7 +9,7 @@ ghost use Rattle.lines.specs.Lines.{Carried, Done, found_text, listed_text};
 use super::listing_rows::counted;
 use command::Command;
 use history::Reply;
-use line_text::LineAnswer;
+use line_text::{LineAnswer, ROW_PLACES};
 use listing::LinkRow;
 use record::Tally;
 use refusal::Refusal;
@@ -18,9 +18,6 @@ use share::{count_at, share};
 use store::RelationTable;
 use trie_list::TrieList;
 use word_triple::WordTriple;
-
-// The most rows that a listing prints.
-const ROWS: usize = 100;
 
 // The list, the table and the records are handed on side by side, here and below: a store is no
 // value of its own, and a call takes what it needs of the three.
@@ -74,13 +71,13 @@ fn found(
 // What is printed of rows that were listed.
 fn listed_answer(
     records: &[Tally],
-    rows: &[LinkRow; ROWS],
+    rows: &[LinkRow; ROW_PLACES],
     reply: Result<Reply<Tally>, Refusal>,
 ) -> Result<LineAnswer, Refusal>
     ensures { answer_text result ≡ listed_text records.now rows.now reply }
 {
     match reply? {
-        Reply::Listed(count) if count <= ROWS => {
+        Reply::Listed(count) if count <= ROW_PLACES => {
             Ok(LineAnswer::Listing(counted(records, &rows[..count])))
         }
         _ => Ok(LineAnswer::Absent),
@@ -98,7 +95,7 @@ fn listed(
     ensures { Carried (state_of list.old table.old records.old) (Some (list_asked x.now relation)) (answer_text result) (state_of list.new table.new records.new) }
 {
     // Rows are written into an output that is lent: a rule of the project.
-    let mut rows = [LinkRow::default(); ROWS];
+    let mut rows = [LinkRow::default(); ROW_PLACES];
     let request = GrowingRequest::Other(Request::List { x, relation });
     let reply = perform_growing(table, list, records, &mut rows, request);
     listed_answer(records, &rows, reply)

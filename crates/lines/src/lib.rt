@@ -18,14 +18,11 @@ ghost use Rattle.lines.specs.Lines.{Carried};
 
 use answering::answer;
 use command::parse;
-use line_text::{LineAnswer, write_answer};
+use line_text::{LineAnswer, TEXT_BYTES, write_answer};
 use record::Tally;
 use refusal::Refusal;
 use store::RelationTable;
 use trie_list::TrieList;
-
-// The least bytes that an output has.
-const TEXT_BYTES: usize = 4096;
 
 // Carries out one line, given without its line feed, and says what is to be printed.
 fn answer_line(

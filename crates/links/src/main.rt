@@ -5,6 +5,7 @@
 #![tactic(auto)]
 
 use cells::Cell;
+use line_text::TEXT_BYTES;
 use lines::perform_line;
 use record::Tally;
 use std::io;
@@ -32,7 +33,7 @@ fn main(rt: HostRuntime) -> io::Result<()> {
     let mut input = BufReader::new(heap, rt.stdin())?;
     let mut output = BufWriter::new(heap, rt.stdout())?;
     let mut read = Vec::new(heap);
-    let mut text = vec![in heap; 0u8; 4096]?;
+    let mut text = vec![in heap; 0u8; TEXT_BYTES]?;
     // A count, since a `loop` over input has no end that could be proved; the library's iterator over
     // lines reads text alone, and does not tell a last line without a feed.
     for _ in 0..u64::MAX {

@@ -21,15 +21,15 @@ use word_triple::WordTriple;
 // How many link numbers there are.
 const LINKS: usize = 16;
 
-// A store of tallies over a trie list.
+// What the program holds side by side for the calls: a list, its link table and an array of tallies.
 #[derive(Drop)]
-struct Store {
+struct Holdings {
     list: TrieList,
     table: RelationTable,
     records: Vec<Tally>,
 }
 
-impl Store {
+impl Holdings {
     // Makes one call and answers what it replies.
     fn call(&mut self, request: GrowingRequest<'_, u8, Tally>) -> Result<Reply<Tally>, Refusal> {
         let mut rows: [LinkRow; 0] = [];
@@ -79,28 +79,28 @@ fn show(rt: &HostRuntime, what: &str, reply: Result<Reply<Tally>, Refusal>) -> i
 // Makes one call and prints what it replied.
 fn ask(
     rt: &HostRuntime,
-    store: &mut Store,
+    holdings: &mut Holdings,
     what: &str,
     request: GrowingRequest<'_, u8, Tally>,
 ) -> io::Result<()> {
-    show(rt, what, store.call(request))
+    show(rt, what, holdings.call(request))
 }
 
 // Prints each link number whose leaf has moved, and what reading it gives.
-fn show_moves(rt: &HostRuntime, store: &mut Store, before: &[u32; LINKS]) -> io::Result<()> {
-    let after = store.leaves();
+fn show_moves(rt: &HostRuntime, holdings: &mut Holdings, before: &[u32; LINKS]) -> io::Result<()> {
+    let after = holdings.leaves();
     for (place, (old, new)) in before.iter().zip(after.iter()).enumerate() {
         if *old != 0 && *new != 0 && *old != *new {
             let link = place as u32 + 1;
             print!(rt; "  link {link} moved from cell {old} to cell {new}; ")?;
-            ask(rt, store, "it reads", Request::Read { link }.into())?;
+            ask(rt, holdings, "it reads", Request::Read { link }.into())?;
         }
     }
     Ok(())
 }
 
 // Adds the pairs, and prints what moved after each.
-fn add_pairs(rt: &HostRuntime, store: &mut Store) -> io::Result<()> {
+fn add_pairs(rt: &HostRuntime, holdings: &mut Holdings) -> io::Result<()> {
     let pairs: [(&[u8], &[u8], u8, u32); 8] = [
         (b"rain", b"coat", 4, 3),
         (b"rain", b"bow", 4, 1),
@@ -112,17 +112,17 @@ fn add_pairs(rt: &HostRuntime, store: &mut Store) -> io::Result<()> {
         (b"rain", b"tie", 6, 8),
     ];
     for (x, y, relation, count) in pairs {
-        let before = store.leaves();
+        let before = holdings.leaves();
         let words = WordTriple { x, relation, y };
         let record = Tally { count };
-        ask(rt, store, "add", GrowingRequest::Add { words, record })?;
-        show_moves(rt, store, &before)?;
+        ask(rt, holdings, "add", GrowingRequest::Add { words, record })?;
+        show_moves(rt, holdings, &before)?;
     }
     Ok(())
 }
 
 // Deletes a pair, changes a record, ties a new pair and the deleted one, and prints what moved.
-fn take_and_tie(rt: &HostRuntime, store: &mut Store) -> io::Result<()> {
+fn take_and_tie(rt: &HostRuntime, holdings: &mut Holdings) -> io::Result<()> {
     let bow = WordTriple {
         x: b"rain",
         relation: 4,
@@ -154,18 +154,18 @@ fn take_and_tie(rt: &HostRuntime, store: &mut Store) -> io::Result<()> {
         ),
         ("tie", Request::Tie { words: bow, record }),
     ];
-    let before = store.leaves();
+    let before = holdings.leaves();
     for (what, request) in requests {
-        ask(rt, store, what, request.into())?;
+        ask(rt, holdings, what, request.into())?;
     }
-    show_moves(rt, store, &before)
+    show_moves(rt, holdings, &before)
 }
 
 // Prints what the numbers 1 to 10 give.
-fn show_all(rt: &HostRuntime, store: &mut Store) -> io::Result<()> {
+fn show_all(rt: &HostRuntime, holdings: &mut Holdings) -> io::Result<()> {
     for link in 1..11 {
         print!(rt; "link {link} ")?;
-        ask(rt, store, "reads", Request::Read { link }.into())?;
+        ask(rt, holdings, "reads", Request::Read { link }.into())?;
     }
     Ok(())
 }
@@ -181,14 +181,14 @@ fn main(rt: HostRuntime) -> anyhow::Result<()> {
         cells,
         vec![in heap; 0u32; LINKS]?,
     );
-    let mut store = Store {
+    let mut holdings = Holdings {
         list,
         table,
         records,
     };
-    add_pairs(&rt, &mut store)?;
-    take_and_tie(&rt, &mut store)?;
-    show_all(&rt, &mut store)?;
-    ask(&rt, &mut store, "figures", Request::Figures.into())?;
+    add_pairs(&rt, &mut holdings)?;
+    take_and_tie(&rt, &mut holdings)?;
+    show_all(&rt, &mut holdings)?;
+    ask(&rt, &mut holdings, "figures", Request::Figures.into())?;
     Ok(())
 }
