@@ -1,0 +1,36 @@
+// A caller that files evidence under a link number.
+ghost use Rattle.std.specs.Prelude.{IfOk};
+ghost use Rattle.history.specs.Kits.{kit_of};
+ghost use Rattle.uses.specs.Evidence.{IsOwnReading};
+
+use cells::Cell;
+use history::Reading;
+use lexicon::GrowingList;
+use record::Record;
+use refusal::Refusal;
+use script::Script;
+use store::RelationTable;
+use word_triple::WordTriple;
+
+// Makes a store, ties a pair with its evidence and another pair, asks for the first once more, which is
+// refused, takes the other pair out, and reads by the number that it was handed. If no call that counts
+// was refused, what it reads are the words, the relation and the evidence of the first pair: the law
+// says so of every history, and so of this one.
+pub fn evidence_of<S: Script, L: GrowingList, R: Record>(
+    list: &mut L,
+    records: &mut [R],
+    cells: Vec<Cell>,
+    index: Vec<u32>,
+    pair: WordTriple<'_, S>,
+    evidence: R,
+    other: WordTriple<'_, S>,
+) -> Result<Reading<R>, Refusal>
+    ensures { IfOk result (IsOwnReading (kit_of S.Script L.ReadableList R.Record) list.new pair.entry.x.now pair.entry.y.now pair.entry.relation evidence) }
+{
+    let mut table = RelationTable::new::<S, L, R>(list, records, cells, index);
+    let link = table.add(list, records, pair, evidence)?;
+    table.add(list, records, other, evidence)?;
+    let _ = table.tie(list, records, pair, evidence);
+    table.delete(list, other)?;
+    table.read(records, link.number)
+}
