@@ -1,4 +1,4 @@
-// Taking a path out: its leaf is freed, and each cell above it that has no child left.
+// Taking a path out: cells are freed from its leaf upward, as far as no other path runs through them.
 ghost use Rattle.std.specs.Prelude.{◌≡◌, ◌<◌, length};
 ghost use Rattle.cells.specs.Pruning.{prune as pruned, root_reset};
 ghost use Rattle.double_array.specs.Buffers.{SameBuffers};
@@ -9,7 +9,7 @@ use super::paths::leaf_number;
 use cells::Cell;
 
 impl Nodes {
-    // Frees the cell `t` and then each cell above it that has no child left, at most `n` cells.
+    // Frees cells from `t` upward, `n` at most: it stops below the first that still has a child.
     fn prune(&mut self, t: usize, n: usize)
         requires within { t < length self.old.cells.items }
         requires parents { Parented self.old.cells.items }

@@ -16,7 +16,7 @@ pub struct Reading<R> {
     pub record: R,
 }
 
-// How many triples are present, and how many link cells are in use.
+// What `figures` counts: the present triples, and the cells in use in the table's array.
 #[derive(Clone, Copy, PartialEq, Eq, Debug)]
 pub struct Figures {
     pub triples: usize,

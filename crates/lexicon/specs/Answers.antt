@@ -28,7 +28,7 @@ held_or_next None false count = Err NoRoom
 abbrev pub enter_answer : List (List ℕ) → Bool → List ℕ → Result ℕ ListFault
 enter_answer roll room word = cond (label_sized word) (held_or_next (number_of roll word) room (length roll)) (Err WordLength)
 
--- the word becomes the last of the roll: its length is right, the roll lacks it, and there is room
+-- whether the roll gets the word: its length is right, the roll lacks it, and there is room
 abbrev pub is_new : List (List ℕ) → Bool → List ℕ → Bool
 is_new roll room word = label_sized word && (not (is_some (number_of roll word)) && room)
 

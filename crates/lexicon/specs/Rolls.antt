@@ -11,7 +11,7 @@ abbrev pub number_from : ℕ → List (List ℕ) → List ℕ → Option ℕ
 number_from n [] word = None
 number_from n (v ∷ more) word = cond (bytes_eq v word) (Some n) (number_from (suc n) more word)
 
--- the number of a word: its place in the roll, from 1
+-- the number of a word: the first word of the roll has 1, and each later one has one more than the word before it
 abbrev pub number_of : List (List ℕ) → List ℕ → Option ℕ
 number_of roll word = number_from 1 roll word
 

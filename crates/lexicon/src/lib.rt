@@ -1,8 +1,8 @@
 // Word lists: what a list of spelled words answers, whatever it is built of.
 //
-// This crate knows the roll, which is a list's words in the order of their numbers, and the two
-// interfaces: a readable list, and a growing list, which is a readable list that also takes new
-// words. It knows nothing of arrays, cells or scripts. The rules stand in docs/WORD_LISTS.md.
+// This crate knows the roll, which is a list's words in the order of their numbers, and two interfaces:
+// `ReadableList`, by which a list is asked, and on top of it `GrowingList`, by which a word is entered.
+// It knows nothing of arrays, cells or scripts. The rules stand in docs/WORD_LISTS.md.
 #![tactic(auto)]
 
 ghost use Rattle.std.specs.Prelude.{◌≡◌, ℕ, ◌≤◌, Bool, ◌&&◌, List, length, IfOk, nat_le};
@@ -44,8 +44,8 @@ pub trait GrowingList: ReadableList {
     // What the list's own arrays hold after the new word is entered, beside what they held before.
     ghost enters: { Self → List ℕ → Self → Type 0 };
 
-    // Enters a spelled word and answers its number. A word that the list has keeps its number, a new
-    // word becomes the last. A spelling of no label or of more than 128 is refused, then a new word
+    // Enters a spelled word and answers its number: the one that it has, or else the next, as it is put
+    // at the end of the roll. A spelling of no label or of more than 128 is refused, then a new word
     // for which there is no room; unless a new word is entered, the list stays as it was.
     fn enter(&mut self, word: &[u8]) -> Result<u16, ListFault>
         ensures answer { result ≡ enter_answer (Self.roll self.old) (room self.old word.now) word.now }

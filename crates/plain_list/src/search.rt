@@ -3,8 +3,8 @@ ghost use Rattle.std.specs.Prelude.{◌≡◌, ◌^◌, ◌<◌, ◌≤◌, leng
 ghost use Rattle.lexicon.specs.Rolls.{number_of};
 ghost use Rattle.plain_list.specs.Cuts.{cut};
 
-// The number of the word among the words of these lengths, or none. It steps through the lengths with
-// their index, adding up places: a rule of the project.
+// The number of the word among the words of these lengths, or none. One pass over the lengths, by index,
+// with the sum of those passed, which is where the next word starts: a rule of the project.
 pub(super) fn number_in(lengths: &[u8], bytes: &[u8], word: &[u8]) -> Option<usize>
     requires { sum lengths.now ≤ length bytes.now }
     ensures { result ≡ number_of (cut lengths.now bytes.now) word.now }

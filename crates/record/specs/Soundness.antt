@@ -18,17 +18,17 @@ one_float = fin false 1 (pos 0)
 abbrev pub million_float : Float
 million_float = fin false 15625 (pos 6)
 
--- a tally is sound from 1 to 1,000,000,000
+-- the test of a tally: its count is neither below 1 nor above 1,000,000,000
 abbrev pub sound_tally : Tally → Bool
 sound_tally tally = nat_le 1 tally.count && nat_le tally.count 1000000000
 
--- a chance is sound from 0 to 1, a cost from 0 to 1,000,000, and a band if 0 ≤ low ≤ high ≤ 1
+-- the test of a score, by its case; the chances of a band are in order too
 abbrev pub sound_score : Score → Bool
 sound_score (Chance chance) = le zero_float chance && le chance one_float
 sound_score (Cost cost) = le zero_float cost && le cost million_float
 sound_score (Band low high) = le zero_float low && le low high && le high one_float
 
--- no score with a NaN in it is sound
+-- a score that has a NaN fails the test
 pub record NanUnsound : Type 0 where
   pub chance : sound_score (Chance nan) ≡ false
   pub cost : sound_score (Cost nan) ≡ false

@@ -14,11 +14,11 @@ mod tests;
 
 pub use meanings::meaning;
 
-// A record type tells of each record whether it is sound, always alike for the same record.
+// What can be filed under a link: a type that has a test, which looks at the record's value and at nothing else.
 pub trait Record: Copy {
     ghost sound: { Self → Bool };
 
-    // The record is sound.
+    // Whether the record passes the test.
     fn is_sound(&self) -> bool
         ensures { result ≡ sound self.now };
 }
@@ -37,7 +37,7 @@ pub enum Score {
     Band(f64, f64),
 }
 
-// A tally is sound from 1 to 1,000,000,000.
+// The test of a tally: 1 ≤ count ≤ 1,000,000,000.
 impl Record for Tally {
     ghost sound = { sound_tally };
 
@@ -53,8 +53,7 @@ fn lies(x: f64, low: f64, high: f64) -> bool
     low <= x && x <= high
 }
 
-// A chance is sound from 0 to 1, a cost from 0 to 1,000,000, and a band where its low chance is at
-// least 0 and at most its high one, and that is at most 1.
+// The test of a score, by its case: 0 ≤ chance ≤ 1, or 0 ≤ cost ≤ 1,000,000, or 0 ≤ low ≤ high ≤ 1.
 impl Record for Score {
     ghost sound = { sound_score };
 
@@ -67,7 +66,7 @@ impl Record for Score {
     }
 }
 
-// The score is sound. No score with a NaN in it is.
+// Whether the score passes the test. A NaN is within no bounds, so a score that has one never does.
 #[tactic(auto, using(crate::proofs::Floats::nan_unsound))]
 pub fn is_sound_score(score: Score) -> bool
     ensures answer { result ≡ sound_score score }

@@ -26,10 +26,10 @@ use script::Script;
 use store::RelationTable;
 use word_triple::WordTriple;
 
-// The share of a present triple in a table of tallies: 1,000,000 times its count, divided by the sum
-// of the counts of all present triples with the same X and the same relation, and rounded to the
-// nearest whole number, a half upward; at most 1,000,000. Refused, in this order: X or Y has no
-// symbol or more than 32, the relation is 0, X or Y is not in the list, the triple is not present.
+// The share of a present triple: its count, in millionths of what the counts of the present triples with
+// its X and its relation add up to. The quotient goes to the nearest whole number, and from halfway
+// between two to the larger; it is at most 1,000,000. Refused, in this order: X or Y has no symbol or more than 32, the relation
+// is 0, X or Y is not in the list, the triple is not present.
 pub fn share<S: Script, L: ReadableList>(
     table: &RelationTable,
     list: &L,

@@ -77,10 +77,10 @@ impl RelationTable {
         Ok(Reading { triple, record })
     }
 
-    // Writes the relation, Y's number and the link number of every triple of X with the relation given,
-    // 0 for all, into `out` from its start, by relation and then by number, and answers how many there
-    // are. Refused, in this order: X has no symbol or more than 32, X is not in the list, `out` is too
-    // short; nothing is written then.
+    // Fills the first places of `out` with a row for each present triple that begins with X, those of one
+    // relation or, where 0 is asked for, of any, and answers how many rows that are. They rise by relation,
+    // and by Y's number within a relation. Refused, in this order: X has no symbol or more than 32, X is
+    // not in the list, `out` is too short; nothing is written then.
     pub fn list<S: Script, L: ReadableList>(
         &self,
         list: &L,
@@ -95,7 +95,7 @@ impl RelationTable {
         list_links(&self.links, number, relation, out).ok_or(Refusal::OutputTooShort)
     }
 
-    // How many triples are present, and how many link cells are in use.
+    // Counts the present triples, and the cells in use in the table's array.
     pub fn figures(&self) -> Figures
         ensures { result ≡ figures_of self.now }
     {

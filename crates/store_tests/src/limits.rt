@@ -23,7 +23,7 @@ fn link(x: u16, y: u16, number: u32) -> Result<Link, Refusal> {
     Ok(Link { x, y, number })
 }
 
-// How many triples are present, and how many link cells are in use.
+// What `figures` is to answer: so many triples, and so many cells.
 fn figures(triples: usize, cells: usize) -> Figures {
     Figures { triples, cells }
 }

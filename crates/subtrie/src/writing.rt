@@ -1,4 +1,4 @@
-// Writing the numbers below a cell: a walk over cells and a walk over edges.
+// Writing the numbers below a cell: `write_below` takes a cell, and `write_edges` the codes that lead on from it.
 //
 // The output and the place in it stay two parameters: of an output that a struct holds, no contract could
 // say what it holds when it is given back (tried).
