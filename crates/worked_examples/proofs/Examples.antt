@@ -3,7 +3,7 @@ use Rattle.std.proofs.Common.{ℕ, [], ◌∷◌, replicate, pos, negsuc, refl, 
 use Rattle.cells.specs.Cells.{free_cell, codes_below}
 use Rattle.cells.specs.Placing.{Arrays, moved_list}
 use Rattle.cells.specs.Examples.{written}
-use Rattle.worked_examples.specs.Examples.{a_word, b_word, ab_word, held_by, Held, list_report, Examples}
+use Rattle.worked_examples.specs.Examples.{a_word, b_word, ab_word, held_by, Held, list_reported, Examples}
 use Rattle.worked_examples.proofs.Words.{new_held, entered, refused}
 use Rattle.worked_examples.proofs.Words.{starts as list_starts}
 
@@ -50,6 +50,6 @@ examples = record {
       let a = entered run.fresh run.with_a a_word run.a_answer run.a_entered (new_held 103) (list_starts 103 run.fresh refl run.made) 1 (with_a 103) refl refl refl in
       let b = entered run.with_a run.with_b b_word run.b_answer run.b_entered (counted (with_a 103) 1) a.1 2 (with_b 103) refl refl refl in
       let ab = refused run.with_b run.with_ab ab_word run.ab_answer run.ab_entered (counted (with_b 103) 2) b.1 refl refl in
-      (a.0, b.0, ap list_report ab.0, ab.1, ap held_by ab.1 ∙ b.1);
+      (a.0, b.0, ap list_reported ab.0, ab.1, ap held_by ab.1 ∙ b.1);
   noun = refl;
 }

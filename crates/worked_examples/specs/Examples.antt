@@ -1,16 +1,19 @@
--- Worked examples of words: what entering them into a list comes to, by the rules, and a spelling.
-use Rattle.std.specs.Prelude.{◌≡◌, ℕ, List, [], ◌∷◌, replicate, pos, negsuc, Some, None, Ok, Err, Option, Result}
+-- Worked examples of words: what entering them into a trie list comes to, and a spelling, by what list and script mean.
+use Rattle.std.specs.Prelude.{◌≡◌, ℕ, List, [], ◌∷◌, length, replicate, pos, negsuc, Some, None, Ok, Err, Option, Result}
 use Rattle.refusal.specs.Reports.{report_of, list_refusal}
 use Rattle.refusal.specs.declared.ListFault.{ListFault}
+use Rattle.refusal.specs.declared.Layer.TheVariants.{List as WordList}
 use Rattle.refusal.specs.declared.Side.TheVariants.{Neither}
-use Rattle.script.specs.Alphabets.{sign}
+use Rattle.refusal.specs.declared.Report.{Report}
+use Rattle.script.specs.contracts.alphabets.MorphemeSignScript.TheImpl.{ghosts as signs}
 use Rattle.script.specs.declared.alphabets.MorphemeClass.TheVariants.{Noun}
 use Rattle.lexicon.specs.Answers.{enter_answer, is_new, EnterLeaves}
 use Rattle.cells.specs.declared.Cell.{Cell}
 use Rattle.cells.specs.Cells.{free_cell}
 use Rattle.cells.specs.Examples.{written}
 use Rattle.double_array.specs.Views.{cells_of, index_of}
-use Rattle.trie_list.specs.Trie.{roll_of, room_of, Placed}
+use Rattle.trie_list.specs.contracts.calls.TrieListReadableList.TheImpl.{ghosts as readable}
+use Rattle.trie_list.specs.contracts.calls.TrieListGrowingList.TheImpl.{ghosts as growing}
 use Rattle.trie_list.specs.Trie.{Made as NewList}
 use Rattle.trie_list.specs.declared.list.TrieList.{TrieList}
 
@@ -31,12 +34,12 @@ pub record Held : Type 0 where
   pub count : ℕ
 
 abbrev pub held_by : TrieList → Held
-held_by s = record { cells = cells_of s.array; index = index_of s.array; count = s.count }
+held_by s = record { cells = cells_of s.array; index = index_of s.array; count = length (readable.roll s) }
 
 -- entering the word into the list s was answered r and left the list t
 pub record Enters (s : TrieList) (word : List ℕ) (r : Result ℕ ListFault) (t : TrieList) : Type 0 where
-  pub answer : r ≡ enter_answer (roll_of s) (room_of s word) word
-  pub after : EnterLeaves roll_of Placed s word t (is_new (roll_of s) (room_of s word) word)
+  pub answer : r ≡ enter_answer (readable.roll s) (growing.room s word) word
+  pub after : EnterLeaves readable.roll growing.enters s word t (is_new (readable.roll s) (growing.room s word) word)
 
 -- a, b and ab were entered in turn into a new list of n cells and three index entries
 pub record ThreeWords (n : ℕ) : Type 0 where
@@ -52,10 +55,14 @@ pub record ThreeWords (n : ℕ) : Type 0 where
   pub b_entered : Enters with_a b_word b_answer with_b
   pub ab_entered : Enters with_b ab_word ab_answer with_ab
 
--- the number with which a list's answer is refused, none where it is not
-abbrev pub list_report : Result ℕ ListFault → Option ℕ
-list_report (Ok number) = None
-list_report (Err fault) = Some (report_of (list_refusal fault Neither)).number
+-- how a refused answer of a list is reported, none where it is not refused
+abbrev pub list_reported : Result ℕ ListFault → Option Report
+list_reported (Ok number) = None
+list_reported (Err fault) = Some (report_of (list_refusal fault Neither))
+
+-- the report that a list has no room
+abbrev pub no_room : Report
+no_room = record { number = 5; layer = WordList; side = Neither }
 
 -- what comes of them
 pub record Examples : Type 0 where
@@ -68,8 +75,8 @@ pub record Examples : Type 0 where
     index = 4 ∷ 3 ∷ 2 ∷ [];
     count = 3;
   })
-  -- in a list of 103 cells ab has no place and is refused with the number 5; the list is what a and b left
-  pub two_words : (run : ThreeWords 103) → (run.a_answer ≡ Ok 1) × (run.b_answer ≡ Ok 2) × (list_report run.ab_answer ≡ Some 5) × (run.with_ab ≡ run.with_b) × (held_by run.with_ab ≡ record {
+  -- in a list of 103 cells ab has no place and is refused: number 5, layer word list, side neither; the list is what a and b left
+  pub two_words : (run : ThreeWords 103) → (run.a_answer ≡ Ok 1) × (run.b_answer ≡ Ok 2) × (list_reported run.ab_answer ≡ Some no_room) × (run.with_ab ≡ run.with_b) × (held_by run.with_ab ≡ record {
     cells = written (replicate 103 free_cell) (
         record { place = 1; base = pos 1; check = 1 } ∷ record { place = 2; base = negsuc 0; check = 100 } ∷ record { place = 3; base = negsuc 1; check = 101 }
         ∷ record { place = 100; base = pos 1; check = 1 } ∷ record { place = 101; base = pos 2; check = 1 } ∷ []);
@@ -77,4 +84,4 @@ pub record Examples : Type 0 where
     count = 2;
   })
   -- the noun with the form 258 is spelled 5, 1, 2
-  pub noun : sign (record { class = Noun; form = 258 }) ≡ 5 ∷ 1 ∷ 2 ∷ []
+  pub noun : signs.spelling (record { class = Noun; form = 258 }) ≡ 5 ∷ 1 ∷ 2 ∷ []
