@@ -2,7 +2,8 @@
 use lexicon::{GrowingList, ReadableList};
 use plain_list::PlainList;
 use refusal::ListFault;
-use std::alloc::{AllocError, Global};
+use std::alloc::{AllocError, AllocGlobal, Global};
+use std::process::Abort;
 use std::test::Fail;
 
 fn list(heap: Global, bytes: usize, lengths: usize) -> Result<PlainList, AllocError> {
@@ -76,13 +77,33 @@ fn numbers_and_outputs_are_tested(rt: HostRuntime) -> Result<(), Fail> {
     Ok(())
 }
 
-#[test]
-fn longer_arrays_are_used_up_to_their_limits(rt: HostRuntime) -> Result<(), Fail> {
-    let mut words = list(rt.alloc(), 8_388_609, 65_536)?;
+// A list over so many bytes and lengths keeps both arrays whole, and takes words.
+fn keeps(rt: &(impl Abort + AllocGlobal), bytes: usize, lengths: usize) -> Result<(), AllocError> {
+    let mut words = list(rt.alloc(), bytes, lengths)?;
+    assert_eq!(rt; words.count(), 0);
     assert_eq!(rt; words.enter(b"rain"), Ok(1));
     assert_eq!(rt; words.enter(b"coat"), Ok(2));
     assert_eq!(rt; words.find(b"coat"), Ok(Some(2)));
-    assert_eq!(rt; words.bytes().len(), 8_388_609);
-    assert_eq!(rt; words.lengths().len(), 65_536);
+    assert_eq!(rt; words.count(), 2);
+    assert_eq!(rt; words.bytes().len(), bytes);
+    assert!(rt; words.bytes().starts_with(b"raincoat\xc8"));
+    assert!(rt; words.bytes().ends_with(b"\xc8"));
+    assert_eq!(rt; words.lengths().len(), lengths);
+    assert!(rt; words.lengths().starts_with(&[4, 4, 77]));
+    assert!(rt; words.lengths().ends_with(&[77]));
+    Ok(())
+}
+
+#[test]
+fn arrays_of_their_limits_and_longer_stay_whole(rt: HostRuntime) -> Result<(), Fail> {
+    let cases = [
+        (8_388_607, 65_534),
+        (8_388_608, 65_535),
+        (8_388_609, 65_536),
+        (8_388_700, 65_540),
+    ];
+    for (bytes, lengths) in cases {
+        keeps(&rt, bytes, lengths)?;
+    }
     Ok(())
 }

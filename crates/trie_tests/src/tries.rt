@@ -96,10 +96,35 @@ fn a_word_without_a_place_leaves_the_cells(rt: HostRuntime) -> Result<(), Fail> 
 
 #[test]
 fn small_arrays_have_no_room(rt: HostRuntime) -> Result<(), Fail> {
-    for (cells, index) in [(0, 3), (1, 3), (2, 3), (300, 0)] {
+    for (cells, index) in [(0, 3), (1, 3), (2, 3), (100, 3), (300, 0)] {
         let mut words = list(rt.alloc(), cells, index)?;
+        assert_eq!(rt; words.cells().len(), cells);
+        assert_eq!(rt; words.index().len(), index);
         assert_eq!(rt; words.enter(b"a"), Err(ListFault::NoRoom));
         assert_eq!(rt; words.find(b"a"), Ok(None));
+        assert_eq!(rt; words.count(), 0);
+    }
+    Ok(())
+}
+
+#[test]
+fn arrays_are_kept_up_to_their_limits(rt: HostRuntime) -> Result<(), Fail> {
+    // Cells and index places that are given, and those that the list has.
+    let cases = [
+        (101, 1, 101, 1),
+        (1_048_575, 65_534, 1_048_575, 65_534),
+        (1_048_576, 65_535, 1_048_576, 65_535),
+        (1_048_577, 65_536, 1_048_576, 65_535),
+        (101, 65_540, 101, 65_535),
+    ];
+    for (cells, index, cells_kept, index_kept) in cases {
+        let mut words = list(rt.alloc(), cells, index)?;
+        assert_eq!(rt; words.cells().len(), cells_kept);
+        assert_eq!(rt; words.index().len(), index_kept);
+        assert_eq!(rt; words.enter(b"a"), Ok(1));
+        assert_eq!(rt; words.count(), 1);
+        holds(&rt, &words, &[(1, (1, 1)), (2, (-1, 100)), (100, (1, 1))]);
+        assert!(rt; words.index().starts_with(&[2]));
     }
     Ok(())
 }
