@@ -18,10 +18,10 @@ use Rattle.link_table.specs.Tables.{found, coded, limit, all_held}
 use Rattle.link_table.specs.declared.table.LinkTable.{LinkTable}
 use Rattle.link_table.specs.declared.triple.Triple.{Triple}
 use Rattle.link_table.proofs.Tables.{lawful}
-use Rattle.history.specs.Kits.{Kit, State, state_of, number_in, triple_in}
+use Rattle.history.specs.Kits.{Kit, State, state_of, any_growth, number_in, triple_in}
 use Rattle.history.specs.Refusals.{first, word_refusals, add_refusals, tie_refusals, delete_refusals, read_refusals, change_refusals, list_refusals}
 use Rattle.history.specs.Calls.{LinkMade, held_in, place_in, lacks, refusal_of_tie, refusal_of_add, refusal_of_delete, refusal_of_change, refusal_of_list, answered, link_by, read_by, read_of, rows_in}
-use Rattle.history.specs.Runs.{History, Entry, same_triple, anything, Reached}
+use Rattle.history.specs.Runs.{History, Entry, same_triple, Reached}
 use Rattle.history.specs.Laws.{Unless, has_triple, has_link, entries_of, code_in, Answers, Next, Law}
 use Rattle.subtrie.proofs.Members.{in_map, map_in}
 use Rattle.history.proofs.Members.{open_from, some_passes, passes_from, from_passes}
@@ -161,11 +161,11 @@ module _ {S L R : Type 0} (K : Kit S L R) {es : List (Entry S R)} {us : List ℕ
   next_of : Next K es s
   next_of = record {
     add = λ room x y q r n t k.
-        let H' = add_grown K room anything s t x y q r n H k in
+        let H' = add_grown K (any_growth room) s t x y q r n H k in
         subst (λ (o : Option Refusal). Unless o n)
-        (ap (λ (b : Bool). first (add_refusals x y q (K.good r) (lacks K room s.list x) (lacks K room k.mid y) b (all_held s.table) (place_in K k.last s.table x y q))) (held_is K H'.fits x y q)
-        ∙ ap (λ (b : Bool). first (add_refusals x y q (K.good r) (lacks K room s.list x) (lacks K room k.mid y) (has_triple K es x y q) b (place_in K k.last s.table x y q))) full_is)
-        (unless_decided (refusal_of_add K room s.list k.mid k.last s.table x y q r) (state_of k.last s.table s.records) n t
+        (ap (λ (b : Bool). first (add_refusals x y q (K.good r) (lacks K (any_growth room) s.list x) (lacks K (any_growth room) k.mid y) b (all_held s.table) (place_in K k.last s.table x y q))) (held_is K H'.fits x y q)
+        ∙ ap (λ (b : Bool). first (add_refusals x y q (K.good r) (lacks K (any_growth room) s.list x) (lacks K (any_growth room) k.mid y) (has_triple K es x y q) b (place_in K k.last s.table x y q))) full_is)
+        (unless_decided (refusal_of_add K (any_growth room) s.list k.mid k.last s.table x y q r) (state_of k.last s.table s.records) n t
         (LinkMade K (state_of k.last s.table s.records) x y q r n t) (λ j. ap is_ok j.answer) k.result);
     tie = λ x y q r n t k.
         subst (λ (o : Option Refusal). Unless o n)

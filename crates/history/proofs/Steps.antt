@@ -13,35 +13,35 @@ use Rattle.listing.specs.declared.row.LinkRow.{LinkRow}
 use Rattle.history.specs.declared.replies.Link.{Link}
 use Rattle.history.specs.declared.replies.Reply.{Reply}
 use Rattle.history.specs.declared.replies.Reply.TheVariants.{Linked, Deleted, Changed}
-use Rattle.history.specs.Kits.{Kit, State, state_of, labels_of, number_in, triple_in}
+use Rattle.history.specs.Kits.{Kit, State, Growth, state_of, any_growth, labels_of, number_in, triple_in}
 use Rattle.history.specs.Refusals.{none, word_refusals, put_refusals, add_refusals, tie_refusals, change_refusals}
 use Rattle.history.specs.Calls.{Call, add, tie, delete, find, read, change, list, figures, Decided, LinkMade, Adds, Ties, Deletes, Changes, Steps, held_in, place_in, lacks, grows, fine, refusal_of_tie, refusal_of_add, refusal_of_delete, refusal_of_change, replied}
-use Rattle.history.specs.Runs.{History, Entry, entry_of, rewritten, put_in, taken_out, given, present, present_after, hand_out, take_back, handed, handed_after, handed_by, taken_by, one_if, put_after, puts, delete_after, deletes, anything, Reached, new, after}
+use Rattle.history.specs.Runs.{History, Entry, entry_of, rewritten, put_in, taken_out, given, present, present_after, hand_out, take_back, handed, handed_after, handed_by, taken_by, one_if, put_after, puts, delete_after, deletes, Reached, new, after}
 use Rattle.history.proofs.Options.{none_from, none_applies, applies_none}
 use Rattle.history.proofs.Held.{Known, Fits, Grows, grown, new_fits, counts, put_fits, out_fits, change_fits}
 
 -- a word list that was asked to enter a word has its words with their numbers
-pub grows_from : {S L R : Type 0} (K : Kit S L R) (enters : L → List ℕ → L → Type 0) (l l' : L) (x : List S) (b : Bool) → EnterLeaves K.roll enters l (labels_of K x) l' b → Grows K l l'
-grows_from K enters l l' x true e y n h = ap (λ (roll : List (List ℕ)). number_of roll (labels_of K y)) e.1 ∙ number_from_kept 1 (K.roll l) (labels_of K x) (labels_of K y) n h
-grows_from {S} {L} K enters l l' x false e y n h = ap (λ (z : L). number_in K z y) e ∙ h
+pub grows_from : {S L R : Type 0} (K : Kit S L R) (G : Growth L) (l l' : L) (x : List S) (b : Bool) → EnterLeaves K.roll G.enters l (labels_of K x) l' b → Grows K l l'
+grows_from K G l l' x true e y n h = ap (λ (roll : List (List ℕ)). number_of roll (labels_of K y)) e.1 ∙ number_from_kept 1 (K.roll l) (labels_of K x) (labels_of K y) n h
+grows_from {S} {L} K G l l' x false e y n h = ap (λ (z : L). number_in K z y) e ∙ h
 
 -- and a lawful roll
-pub roll_from : {S L R : Type 0} (K : Kit S L R) (enters : L → List ℕ → L → Type 0) (l l' : L) (x : List S) (b : Bool) → EnterLeaves K.roll enters l (labels_of K x) l' b → Lawful (K.roll l) → Lawful (K.roll l')
-roll_from K enters l l' x true e s = e.2
-roll_from {S} {L} K enters l l' x false e s = subst (λ (z : L). Lawful (K.roll z)) (sym e) s
+pub roll_from : {S L R : Type 0} (K : Kit S L R) (G : Growth L) (l l' : L) (x : List S) (b : Bool) → EnterLeaves K.roll G.enters l (labels_of K x) l' b → Lawful (K.roll l) → Lawful (K.roll l')
+roll_from K G l l' x true e s = e.2
+roll_from {S} {L} K G l l' x false e s = subst (λ (z : L). Lawful (K.roll z)) (sym e) s
 
 -- and, unless the word lacks room, has the word
-pub known_from : {S L R : Type 0} (K : Kit S L R) (room : L → List ℕ → Bool) (enters : L → List ℕ → L → Type 0) (l l' : L) (x : List S) (go : Bool) →
-    EnterLeaves K.roll enters l (labels_of K x) l' (go && grows K room l x) → go ≡ true → lacks K room l x ≡ false → (a : ℕ) × (number_in K l' x ≡ Some a)
-known_from K room enters l l' x go e on fits =
+pub known_from : {S L R : Type 0} (K : Kit S L R) (G : Growth L) (l l' : L) (x : List S) (go : Bool) →
+    EnterLeaves K.roll G.enters l (labels_of K x) l' (go && grows K G l x) → go ≡ true → lacks K G l x ≡ false → (a : ℕ) × (number_in K l' x ≡ Some a)
+known_from K G l l' x go e on fits =
     ⊎_elim
-    (λ has. let a = some_is (number_in K l x) has in (a.0, grows_from K enters l l' x (go && grows K room l x) e x a.0 a.1))
+    (λ has. let a = some_is (number_in K l x) has in (a.0, grows_from K G l l' x (go && grows K G l x) e x a.0 a.1))
     (λ no.
     let absent = none_from (number_in K l x) no in
     let is_new : none (number_in K l x) ≡ true = not_from_false (is_some (number_in K l x)) no in
-    let free : room l (labels_of K x) ≡ true = not-false (room l (labels_of K x)) (sym (ap (λ (b : Bool). b && not (room l (labels_of K x))) is_new) ∙ fits) in
-    let all = and_from go (grows K room l x) on (and_from (none (number_in K l x)) (room l (labels_of K x)) is_new free) in
-    let entered = subst (EnterLeaves K.roll enters l (labels_of K x) l') all e in
+    let free : G.room l (labels_of K x) ≡ true = not-false (G.room l (labels_of K x)) (sym (ap (λ (b : Bool). b && not (G.room l (labels_of K x))) is_new) ∙ fits) in
+    let all = and_from go (grows K G l x) on (and_from (none (number_in K l x)) (G.room l (labels_of K x)) is_new free) in
+    let entered = subst (EnterLeaves K.roll G.enters l (labels_of K x) l') all e in
     (1 + length (K.roll l), ap (λ (roll : List (List ℕ)). number_of roll (labels_of K x)) entered.1 ∙ number_from_last 1 (K.roll l) (labels_of K x) absent))
     (cases_Bool (is_some (number_in K l x)))
 
@@ -87,36 +87,36 @@ module _ {S L R : Type 0} (K : Kit S L R) {es : List (Entry S R)} {us : List ℕ
           }
 
   -- the list after an add, with the table and the records as they were
-  pub add_grown : (room : L → List ℕ → Bool) (enters : L → List ℕ → L → Type 0) (s t : State L R) (x y : List S) (q : ℕ) (r : R) (m : Result Link Refusal) → Held K es us p d s → (k : Adds K room enters s x y q r m t)
+  pub add_grown : (G : Growth L) (s t : State L R) (x y : List S) (q : ℕ) (r : R) (m : Result Link Refusal) → Held K es us p d s → (k : Adds K G s x y q r m t)
       → Held K es us p d (state_of k.last s.table s.records)
-  add_grown room enters s t x y q r m H k = record {
-    fits = grown K s.list k.last (λ z n h. grows_from K enters k.mid k.last y _ k.y_entered z n (grows_from K enters s.list k.mid x _ k.x_entered z n h)) H.fits
-        (roll_from K enters k.mid k.last y _ k.y_entered (roll_from K enters s.list k.mid x _ k.x_entered H.fits.roll));
+  add_grown G s t x y q r m H k = record {
+    fits = grown K s.list k.last (λ z n h. grows_from K G k.mid k.last y _ k.y_entered z n (grows_from K G s.list k.mid x _ k.x_entered z n h)) H.fits
+        (roll_from K G k.mid k.last y _ k.y_entered (roll_from K G s.list k.mid x _ k.x_entered H.fits.roll));
     tally = H.tally;
   }
 
   -- add
-  add_held : (room : L → List ℕ → Bool) (enters : L → List ℕ → L → Type 0) (s t : State L R) (x y : List S) (q : ℕ) (r : R) (m : Result Link Refusal) (n : Result (Reply R) Refusal) → Held K es us p d s → n ≡ replied Linked m → Adds K room enters s x y q r m t
+  add_held : (G : Growth L) (s t : State L R) (x y : List S) (q : ℕ) (r : R) (m : Result Link Refusal) (n : Result (Reply R) Refusal) → Held K es us p d s → n ≡ replied Linked m → Adds K G s x y q r m t
       → Held K (put_in x y q r (handed_by n) es) (hand_out (handed_by n) us) (one_if (is_ok n) p) d t
-  add_held room enters s t x y q r m n H e k =
-      put_held (state_of k.last s.table s.records) t x y q r m n (refusal_of_add K room s.list k.mid k.last s.table x y q r) (add_grown room enters s t x y q r m H k) e known k.result
+  add_held G s t x y q r m n H e k =
+      put_held (state_of k.last s.table s.records) t x y q r m n (refusal_of_add K G s.list k.mid k.last s.table x y q r) (add_grown G s t x y q r m H k) e known k.result
     where
       -- where nothing is refused both words are known by then
-      known : refusal_of_add K room s.list k.mid k.last s.table x y q r ≡ None → (u : ℕ) → Known K k.last (entry_of x y q u r)
+      known : refusal_of_add K G s.list k.mid k.last s.table x y q r ≡ None → (u : ℕ) → Known K k.last (entry_of x y q u r)
       known z u =
-          let c = none_applies (add_refusals x y q (K.good r) (lacks K room s.list x) (lacks K room k.mid y) (held_in K k.last s.table x y q) (all_held s.table) (place_in K k.last s.table x y q)) z in
+          let c = none_applies (add_refusals x y q (K.good r) (lacks K G s.list x) (lacks K G k.mid y) (held_in K k.last s.table x y q) (all_held s.table) (place_in K k.last s.table x y q)) z in
           let well : fine K x y q r ≡ true = ap none (applies_none (put_refusals x y q (K.good r)) (c.0, (c.1.0, (c.1.1.0, (c.1.1.1.0, tt))))) in
-          let x_fits : lacks K room s.list x ≡ false = c.1.1.1.1.0 in
-          let y_fits : lacks K room k.mid y ≡ false = c.1.1.1.1.1.0 in
-          let a = known_from K room enters s.list k.mid x (fine K x y q r) k.x_entered well x_fits in
-          let b = known_from K room enters k.mid k.last y (fine K x y q r && not (lacks K room s.list x)) k.y_entered
-          (and_from (fine K x y q r) (not (lacks K room s.list x)) well (not_from_false (lacks K room s.list x) x_fits)) y_fits in
+          let x_fits : lacks K G s.list x ≡ false = c.1.1.1.1.0 in
+          let y_fits : lacks K G k.mid y ≡ false = c.1.1.1.1.1.0 in
+          let a = known_from K G s.list k.mid x (fine K x y q r) k.x_entered well x_fits in
+          let b = known_from K G k.mid k.last y (fine K x y q r && not (lacks K G s.list x)) k.y_entered
+          (and_from (fine K x y q r) (not (lacks K G s.list x)) well (not_from_false (lacks K G s.list x) x_fits)) y_fits in
           record {
             fit = applies_none (word_refusals x y q) (c.0, (c.1.0, (c.1.1.0, tt)));
             sound = not-false (K.good r) c.1.1.1.0;
             a = a.0;
             b = b.0;
-            x_number = grows_from K enters k.mid k.last y _ k.y_entered x a.0 a.1;
+            x_number = grows_from K G k.mid k.last y _ k.y_entered x a.0 a.1;
             y_number = b.1;
           }
 
@@ -154,19 +154,19 @@ module _ {S L R : Type 0} (K : Kit S L R) {es : List (Entry S R)} {us : List ℕ
           (record { fits = change_fits K H.fits u r good c.0 c.1; tally = omega (arith, H.tally, length-map es (rewritten u r)) }))
 
   -- each call
-  step_held : (room : L → List ℕ → Bool) (s t : State L R) (out out' : List LinkRow) (c : Call S R) (n : Result (Reply R) Refusal) → Held K es us p d s → Steps K room anything s out c n t out'
+  step_held : (G : Growth L) (s t : State L R) (out out' : List LinkRow) (c : Call S R) (n : Result (Reply R) Refusal) → Held K es us p d s → Steps K G s out c n t out'
       → Held K (present_after K c n es) (handed_after c n us) (put_after c (is_ok n) p) (delete_after c (is_ok n) d) t
-  step_held room s t out out' (add x y q r) n H k = add_held room anything s t x y q r k.0 n H k.1 k.2
-  step_held room s t out out' (tie x y q r) n H k = tie_held s t x y q r k.0 n H k.1 k.2
-  step_held room s t out out' (delete x y q) n H k =
+  step_held G s t out out' (add x y q r) n H k = add_held G s t x y q r k.0 n H k.1 k.2
+  step_held G s t out out' (tie x y q r) n H k = tie_held s t x y q r k.0 n H k.1 k.2
+  step_held G s t out out' (delete x y q) n H k =
       subst (Held K (taken_out K x y q (is_ok n) es) (take_back (taken_by n) us) p (one_if (is_ok n) d)) (sym k.3) (delete_held s.list s.table t.table s.records x y q k.0 n H k.1 k.2)
-  step_held room s t out out' (find x y q) n H k = subst (Held K es us p d) (sym k.1) H
-  step_held room s t out out' (read u) n H k = subst (Held K es us p d) (sym k.1) H
-  step_held room s t out out' (change u r) n H k = subst (Held K (given u r (is_ok n) es) us p d) (sym k.3) (change_held s.list s.table s.records t.records u r k.0 n H k.1 k.2)
-  step_held room s t out out' (list x q) n H k = subst (Held K es us p d) (sym k.3) H
-  step_held room s t out out' figures n H k = subst (Held K es us p d) (sym k.1) H
+  step_held G s t out out' (find x y q) n H k = subst (Held K es us p d) (sym k.1) H
+  step_held G s t out out' (read u) n H k = subst (Held K es us p d) (sym k.1) H
+  step_held G s t out out' (change u r) n H k = subst (Held K (given u r (is_ok n) es) us p d) (sym k.3) (change_held s.list s.table s.records t.records u r k.0 n H k.1 k.2)
+  step_held G s t out out' (list x q) n H k = subst (Held K es us p d) (sym k.3) H
+  step_held G s t out out' figures n H k = subst (Held K es us p d) (sym k.1) H
 
 -- every run
 pub held_of : {S L R : Type 0} (K : Kit S L R) {h : History S R} {s : State L R} → Reached K h s → Held K (present K h) (handed h) (puts h) (deletes h) s
 held_of K (new {l} {t} {rs} {n} {k} roll made) = record { fits = new_fits K l t rs n k roll made; tally = refl }
-held_of K (after {h} {s} {t} {c} {n} room out out' before steps) = step_held K room s t out out' c n (held_of K before) steps
+held_of K (after {h} {s} {t} {c} {n} room out out' before steps) = step_held K (any_growth room) s t out out' c n (held_of K before) steps

@@ -18,7 +18,7 @@ use Rattle.history.specs.declared.replies.Reading.{Reading}
 use Rattle.history.specs.declared.replies.Figures.{Figures as FigurePair}
 use Rattle.history.specs.declared.replies.Reply.{Reply}
 use Rattle.history.specs.declared.replies.Reply.TheVariants.{Linked, Deleted, Found, Read, Changed, Listed, Counted}
-use Rattle.history.specs.Kits.{Kit, State, state_of, labels_of, number_in, triple_in}
+use Rattle.history.specs.Kits.{Kit, State, Growth, state_of, labels_of, number_in, triple_in}
 use Rattle.history.specs.Refusals.{first, none, word_refusals, put_refusals, add_refusals, tie_refusals, delete_refusals, change_refusals, list_refusals}
 
 -- refused: the answer is that refusal and what the call might change is as it was; otherwise P
@@ -61,28 +61,28 @@ module _ {S L R : Type 0} (K : Kit S L R) where
   Ties s x y q r n t = Decided (refusal_of_tie s.list s.table x y q r) s n t (LinkMade s x y q r n t)
 
   -- whether the word is new and has no room
-  abbrev pub lacks : (L → List ℕ → Bool) → L → List S → Bool
-  lacks room l x = none (number_in K l x) && not (room l (labels_of K x))
+  abbrev pub lacks : Growth L → L → List S → Bool
+  lacks G l x = none (number_in K l x) && not (G.room l (labels_of K x))
 
   -- whether the word is new and has room
-  abbrev pub grows : (L → List ℕ → Bool) → L → List S → Bool
-  grows room l x = none (number_in K l x) && room l (labels_of K x)
+  abbrev pub grows : Growth L → L → List S → Bool
+  grows G l x = none (number_in K l x) && G.room l (labels_of K x)
 
   -- whether none of the refusals applies that come before any word is entered
   abbrev pub fine : List S → List S → ℕ → R → Bool
   fine x y q r = none (first (put_refusals x y q (K.good r)))
 
-  abbrev pub refusal_of_add : (L → List ℕ → Bool) → L → L → L → LinkTable → List S → List S → ℕ → R → Option Refusal
-  refusal_of_add room l mid last t x y q r = first (add_refusals x y q (K.good r) (lacks room l x) (lacks room mid y) (held_in last t x y q) (all_held t) (place_in last t x y q))
+  abbrev pub refusal_of_add : Growth L → L → L → L → LinkTable → List S → List S → ℕ → R → Option Refusal
+  refusal_of_add G l mid last t x y q r = first (add_refusals x y q (K.good r) (lacks G l x) (lacks G mid y) (held_in last t x y q) (all_held t) (place_in last t x y q))
 
   -- add: X is entered, then Y, then the triple. Words that were entered before a refusal stay
-  pub record Adds (room : L → List ℕ → Bool) (enters : L → List ℕ → L → Type 0) (s : State L R) (x y : List S) (q : ℕ) (r : R) (n : Result Link Refusal) (t : State L R) : Type 0 where
+  pub record Adds (G : Growth L) (s : State L R) (x y : List S) (q : ℕ) (r : R) (n : Result Link Refusal) (t : State L R) : Type 0 where
     -- the list after X, and after Y
     pub mid : L
     pub last : L
-    pub x_entered : EnterLeaves K.roll enters s.list (labels_of K x) mid (fine x y q r && grows room s.list x)
-    pub y_entered : EnterLeaves K.roll enters mid (labels_of K y) last ((fine x y q r && not (lacks room s.list x)) && grows room mid y)
-    pub result : Decided (refusal_of_add room s.list mid last s.table x y q r) (state_of last s.table s.records) n t (LinkMade (state_of last s.table s.records) x y q r n t)
+    pub x_entered : EnterLeaves K.roll G.enters s.list (labels_of K x) mid (fine x y q r && grows G s.list x)
+    pub y_entered : EnterLeaves K.roll G.enters mid (labels_of K y) last ((fine x y q r && not (lacks G s.list x)) && grows G mid y)
+    pub result : Decided (refusal_of_add G s.list mid last s.table x y q r) (state_of last s.table s.records) n t (LinkMade (state_of last s.table s.records) x y q r n t)
 
   -- delete: the triple's path is pruned, and its number answered; list and records stay
   abbrev pub refusal_of_delete : L → LinkTable → List S → List S → ℕ → Option Refusal
@@ -148,12 +148,12 @@ replied f (Ok v) = Ok (f v)
 replied f (Err e) = Err e
 
 -- the call was made in the state s with the output `out`, was answered n, and left the state t and the output out'
-abbrev pub Steps : {S L R : Type 0} → Kit S L R → (L → List ℕ → Bool) → (L → List ℕ → L → Type 0) → State L R → List LinkRow → Call S R → Result (Reply R) Refusal → State L R → List LinkRow → Type 0
-Steps K room enters s out (add x y q r) n t out' = (m : Result Link Refusal) × (n ≡ replied Linked m) × Adds K room enters s x y q r m t × (out' ≡ out)
-Steps K room enters s out (tie x y q r) n t out' = (m : Result Link Refusal) × (n ≡ replied Linked m) × Ties K s x y q r m t × (out' ≡ out)
-Steps K room enters s out (delete x y q) n t out' = (m : Result ℕ Refusal) × (n ≡ replied Deleted m) × Deletes K s.list s.table x y q m t.table × (t ≡ state_of s.list t.table s.records) × (out' ≡ out)
-Steps K room enters s out (find x y q) n t out' = (n ≡ replied Found (find_of K s.list s.table x y q)) × (t ≡ s) × (out' ≡ out)
-Steps K room enters s out (read u) n t out' = (n ≡ replied Read (read_of s.table s.records u)) × (t ≡ s) × (out' ≡ out)
-Steps K room enters s out (change u r) n t out' = (m : Result (Unit {0}) Refusal) × (n ≡ replied (λ _. Changed) m) × Changes K s.table s.records u r m t.records × (t ≡ state_of s.list s.table t.records) × (out' ≡ out)
-Steps K room enters s out (list x q) n t out' = (m : Result ℕ Refusal) × (n ≡ replied Listed m) × Lists K s.list s.table x q out m out' × (t ≡ s)
-Steps K room enters s out figures n t out' = (n ≡ Ok (Counted (figures_of s.table))) × (t ≡ s) × (out' ≡ out)
+abbrev pub Steps : {S L R : Type 0} → Kit S L R → Growth L → State L R → List LinkRow → Call S R → Result (Reply R) Refusal → State L R → List LinkRow → Type 0
+Steps K G s out (add x y q r) n t out' = (m : Result Link Refusal) × (n ≡ replied Linked m) × Adds K G s x y q r m t × (out' ≡ out)
+Steps K G s out (tie x y q r) n t out' = (m : Result Link Refusal) × (n ≡ replied Linked m) × Ties K s x y q r m t × (out' ≡ out)
+Steps K G s out (delete x y q) n t out' = (m : Result ℕ Refusal) × (n ≡ replied Deleted m) × Deletes K s.list s.table x y q m t.table × (t ≡ state_of s.list t.table s.records) × (out' ≡ out)
+Steps K G s out (find x y q) n t out' = (n ≡ replied Found (find_of K s.list s.table x y q)) × (t ≡ s) × (out' ≡ out)
+Steps K G s out (read u) n t out' = (n ≡ replied Read (read_of s.table s.records u)) × (t ≡ s) × (out' ≡ out)
+Steps K G s out (change u r) n t out' = (m : Result (Unit {0}) Refusal) × (n ≡ replied (λ _. Changed) m) × Changes K s.table s.records u r m t.records × (t ≡ state_of s.list s.table t.records) × (out' ≡ out)
+Steps K G s out (list x q) n t out' = (m : Result ℕ Refusal) × (n ≡ replied Listed m) × Lists K s.list s.table x q out m out' × (t ≡ s)
+Steps K G s out figures n t out' = (n ≡ Ok (Counted (figures_of s.table))) × (t ≡ s) × (out' ≡ out)

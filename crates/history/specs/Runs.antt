@@ -8,7 +8,7 @@ use Rattle.link_table.specs.declared.table.LinkTable.{LinkTable}
 use Rattle.listing.specs.declared.row.LinkRow.{LinkRow}
 use Rattle.history.specs.declared.replies.Reply.{Reply}
 use Rattle.history.specs.declared.replies.Reply.TheVariants.{Linked, Deleted, Found, Read, Changed, Listed, Counted}
-use Rattle.history.specs.Kits.{Kit, State, state_of, labels_of}
+use Rattle.history.specs.Kits.{Kit, State, state_of, any_growth, labels_of}
 use Rattle.history.specs.Calls.{Call, add, tie, delete, find, read, change, list, figures, Steps}
 
 -- a call and its answer
@@ -178,12 +178,8 @@ abbrev pub deletes : {S R : Type 0} → History S R → ℕ
 deletes [] = 0
 deletes (e ∷ h) = delete_after e.call (is_ok e.answer) (deletes h)
 
--- whatever a list's own arrays hold
-abbrev pub anything : {L : Type 0} → L → List ℕ → L → Type 0
-anything l w l' = Unit {0}
-
 -- the histories that lead from a new store to a state. A store is new when its link table was made for its records; its list
 -- may hold words. Each call keeps its rule, refused ones too, whichever words have room and whatever the list's own arrays hold
 pub data Reached {S L R : Type 0} (K : Kit S L R) : History S R → State L R → Type 0 where
   new : {l : L} {t : LinkTable} {rs : List R} {n k : ℕ} → Lawful (K.roll l) → Made n k (length rs) t → Reached K [] (state_of l t rs)
-  after : {h : History S R} {s t : State L R} {c : Call S R} {n : Result (Reply R) Refusal} (room : L → List ℕ → Bool) (out out' : List LinkRow) → Reached K h s → Steps K room anything s out c n t out' → Reached K (event_of c n ∷ h) t
+  after : {h : History S R} {s t : State L R} {c : Call S R} {n : Result (Reply R) Refusal} (room : L → List ℕ → Bool) (out out' : List LinkRow) → Reached K h s → Steps K (any_growth room) s out c n t out' → Reached K (event_of c n ∷ h) t

@@ -5,7 +5,6 @@ use Rattle.refusal.specs.declared.Refusal.TheVariants.{MalformedLine}
 use Rattle.refusal.specs.Reports.{report_of}
 use Rattle.record.specs.declared.Tally.{Tally}
 use Rattle.trie_list.specs.declared.list.TrieList.{TrieList}
-use Rattle.trie_list.specs.contracts.calls.TrieListGrowingList.TheImpl.{ghosts as growing}
 use Rattle.listing.specs.declared.row.LinkRow.{LinkRow}
 use Rattle.history.specs.declared.replies.Link.{Link}
 use Rattle.history.specs.declared.replies.Reply.{Reply}
@@ -15,7 +14,7 @@ use Rattle.history.specs.Calls.{Call, Steps, find_of, refusal_of_list, rows_in}
 use Rattle.history.specs.Calls as call
 use Rattle.history.specs.Laws.{Onward}
 use Rattle.store.specs.Links.{link_answer}
-use Rattle.stores.specs.Meanings.{trie_tally_kit}
+use Rattle.stores.specs.Meanings.{trie_tally_kit, trie_growth}
 use Rattle.share.specs.Laws.{ShareLaw}
 use Rattle.share.specs.Shares.{count_at, share_answer}
 use Rattle.command.specs.Commands.{Asked, add, tie, delete, find, share, list}
@@ -85,7 +84,7 @@ share_line (Err f) = refused_text f
 -- t, of which the law holds
 abbrev pub Made : Store → Call ℕ Tally → Result (Reply Tally) Refusal → Store → Type 0
 Made s c n t =
-    ((out out' : List LinkRow) × Steps trie_tally_kit growing.room growing.enters s out c n t out') × Onward trie_tally_kit s c n t
+    ((out out' : List LinkRow) × Steps trie_tally_kit trie_growth s out c n t out') × Onward trie_tally_kit s c n t
 
 -- the call was made, and `text` says that it is done or refused
 abbrev pub Done : Store → Call ℕ Tally → List ℕ → Store → Type 0

@@ -3,18 +3,17 @@ use Rattle.std.proofs.Common.{◌≡◌, ℕ, Bool, false, List, Result, sym, su
 use Rattle.refusal.specs.declared.Refusal.{Refusal}
 use Rattle.listing.specs.declared.row.LinkRow.{LinkRow}
 use Rattle.history.specs.declared.replies.Reply.{Reply}
-use Rattle.history.specs.Kits.{Kit, State}
+use Rattle.history.specs.Kits.{Kit, Growth, State, no_growth}
 use Rattle.history.specs.Calls.{Steps}
-use Rattle.history.specs.Runs.{anything}
 use Rattle.requests.specs.declared.request.Request.{Request}
 use Rattle.requests.specs.declared.request.Request.TheVariants.{Tie, Delete, Find, Read, Change, List as ListOf, Figures}
 use Rattle.requests.specs.declared.request.GrowingRequest.{GrowingRequest}
 use Rattle.requests.specs.declared.request.GrowingRequest.TheVariants.{Other}
 use Rattle.requests.specs.Requests.{call_of, growing_call_of}
 
-module _ {S L R : Type 0} (K : Kit S L R) (room : L → List ℕ → Bool) (enters : L → List ℕ → L → Type 0) where
+module _ {S L R : Type 0} (K : Kit S L R) (G : Growth L) where
   any_list : (request : Request S R) (s : State L R) (out : List LinkRow) (n : Result (Reply R) Refusal) (t : State L R) (out' : List LinkRow)
-      → Steps K (λ _ _. false) anything s out (call_of request) n t out' → Steps K room enters s out (call_of request) n t out'
+      → Steps K no_growth s out (call_of request) n t out' → Steps K G s out (call_of request) n t out'
   any_list (Tie words r) s out n t out' h = h
   any_list (Delete words) s out n t out' h = h
   any_list (Find words) s out n t out' h = h
@@ -24,5 +23,5 @@ module _ {S L R : Type 0} (K : Kit S L R) (room : L → List ℕ → Bool) (ente
   any_list Figures s out n t out' h = h
 
   pub other_steps : (growing : GrowingRequest S R) (request : Request S R) → growing ≡ Other request → (s : State L R) (out : List LinkRow) (n : Result (Reply R) Refusal) (t : State L R) (out' : List LinkRow)
-      → Steps K (λ _ _. false) anything s out (call_of request) n t out' → Steps K room enters s out (growing_call_of growing) n t out'
-  other_steps growing request is s out n t out' h = subst (λ (z : GrowingRequest S R). Steps K room enters s out (growing_call_of z) n t out') (sym is) (any_list request s out n t out' h)
+      → Steps K no_growth s out (call_of request) n t out' → Steps K G s out (growing_call_of growing) n t out'
+  other_steps growing request is s out n t out' h = subst (λ (z : GrowingRequest S R). Steps K G s out (growing_call_of z) n t out') (sym is) (any_list request s out n t out' h)

@@ -2,10 +2,8 @@
 //
 // There are two entries, since add needs a list that grows and the other calls do not; each takes the
 // table, the list and the records side by side, a rule of the project.
-ghost use Rattle.std.specs.Prelude.{false};
-ghost use Rattle.history.specs.Kits.{kit_of, state_of};
+ghost use Rattle.history.specs.Kits.{kit_of, growth_of, no_growth, state_of};
 ghost use Rattle.history.specs.Calls.{Steps};
-ghost use Rattle.history.specs.Runs.{anything};
 ghost use Rattle.history.specs.Laws.{Onward};
 ghost use Rattle.requests.specs.Requests.{call_of, growing_call_of};
 
@@ -26,7 +24,7 @@ fn make<'a, S: Script, L: ReadableList, R: Record>(
     out: &mut [LinkRow],
     request: Request<'a, S, R>,
 ) -> Result<Reply<R>, Refusal>
-    ensures { Steps (kit_of S.Script L.ReadableList R.Record) (λ _ _. false) anything (state_of list.now table.old records.old) out.old (call_of request.entry) result (state_of list.now table.new records.new) out.new }
+    ensures { Steps (kit_of S.Script L.ReadableList R.Record) no_growth (state_of list.now table.old records.old) out.old (call_of request.entry) result (state_of list.now table.new records.new) out.new }
 {
     // `?` and not `map`: the checker follows no case of the generic `Reply` as a function.
     match request {
@@ -55,7 +53,7 @@ pub fn perform<'a, S: Script, L: ReadableList, R: Record>(
     out: &mut [LinkRow],
     request: Request<'a, S, R>,
 ) -> Result<Reply<R>, Refusal>
-    ensures step { Steps (kit_of S.Script L.ReadableList R.Record) (λ _ _. false) anything (state_of list.now table.old records.old) out.old (call_of request.entry) result (state_of list.now table.new records.new) out.new }
+    ensures step { Steps (kit_of S.Script L.ReadableList R.Record) no_growth (state_of list.now table.old records.old) out.old (call_of request.entry) result (state_of list.now table.new records.new) out.new }
     ensures law { Onward (kit_of S.Script L.ReadableList R.Record) (state_of list.now table.old records.old) (call_of request.entry) result (state_of list.now table.new records.new) }
 {
     make(table, list, records, out, request)
@@ -69,7 +67,7 @@ fn make_growing<'a, S: Script, L: GrowingList, R: Record>(
     out: &mut [LinkRow],
     request: GrowingRequest<'a, S, R>,
 ) -> Result<Reply<R>, Refusal>
-    ensures { Steps (kit_of S.Script L.ReadableList R.Record) L.GrowingList.room L.GrowingList.enters (state_of list.old table.old records.old) out.old (growing_call_of request.entry) result (state_of list.new table.new records.new) out.new }
+    ensures { Steps (kit_of S.Script L.ReadableList R.Record) (growth_of L.GrowingList) (state_of list.old table.old records.old) out.old (growing_call_of request.entry) result (state_of list.new table.new records.new) out.new }
 {
     match request {
         GrowingRequest::Add { words, record } => {
@@ -87,7 +85,7 @@ pub fn perform_growing<'a, S: Script, L: GrowingList, R: Record>(
     out: &mut [LinkRow],
     request: GrowingRequest<'a, S, R>,
 ) -> Result<Reply<R>, Refusal>
-    ensures step { Steps (kit_of S.Script L.ReadableList R.Record) L.GrowingList.room L.GrowingList.enters (state_of list.old table.old records.old) out.old (growing_call_of request.entry) result (state_of list.new table.new records.new) out.new }
+    ensures step { Steps (kit_of S.Script L.ReadableList R.Record) (growth_of L.GrowingList) (state_of list.old table.old records.old) out.old (growing_call_of request.entry) result (state_of list.new table.new records.new) out.new }
     ensures law { Onward (kit_of S.Script L.ReadableList R.Record) (state_of list.old table.old records.old) (growing_call_of request.entry) result (state_of list.new table.new records.new) }
 {
     make_growing(table, list, records, out, request)

@@ -8,6 +8,7 @@ use Rattle.script.specs.Words.{word_sized, spelled}
 use Rattle.lexicon.specs.Rolls.{number_of}
 use Rattle.lexicon.specs.Answers.{EnterLeaves}
 use Rattle.link_table.specs.declared.triple.Triple.{Triple}
+use Rattle.history.specs.Kits.{Growth}
 use Rattle.history.specs.Refusals.{first, none, word_refusals, put_refusals}
 use Rattle.store.specs.declared.labels.Labels.{Labels}
 use Rattle.store.specs.declared.labels.WordPair.{WordPair}
@@ -47,7 +48,7 @@ entered_answer None true count side = Ok (count + 1)
 entered_answer None false count side = Err (NoRoom side)
 
 -- a word of the right length was entered into s, which left t
-abbrev pub EnteredWord : {L : Type 0} → (L → List (List ℕ)) → (L → List ℕ → Bool) → (L → List ℕ → L → Type 0) → L → List ℕ → Side → Result ℕ Refusal → L → Type 0
-EnteredWord roll room enters s word side r t =
-    (r ≡ entered_answer (number_of (roll s) word) (room s word) (length (roll s)) side)
-    × EnterLeaves roll enters s word t (none (number_of (roll s) word) && room s word)
+abbrev pub EnteredWord : {L : Type 0} → (L → List (List ℕ)) → Growth L → L → List ℕ → Side → Result ℕ Refusal → L → Type 0
+EnteredWord roll G s word side r t =
+    (r ≡ entered_answer (number_of (roll s) word) (G.room s word) (length (roll s)) side)
+    × EnterLeaves roll G.enters s word t (none (number_of (roll s) word) && G.room s word)

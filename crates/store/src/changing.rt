@@ -2,7 +2,7 @@
 // records it is lent side by side, and the record of a new triple stands beside its words: a rule of
 // the project.
 ghost use Rattle.std.specs.Prelude.{◌≡◌};
-ghost use Rattle.history.specs.Kits.{kit_of, state_of};
+ghost use Rattle.history.specs.Kits.{kit_of, growth_of, state_of};
 ghost use Rattle.history.specs.Calls.{Adds, Ties, Deletes, Changes};
 ghost use Rattle.store.specs.Links.{word_kit, record_kit};
 
@@ -29,7 +29,7 @@ impl RelationTable {
         words: WordTriple<'_, S>,
         record: R,
     ) -> Result<Link, Refusal>
-        ensures { Adds (kit_of S.Script L.ReadableList R.Record) L.GrowingList.room L.GrowingList.enters (state_of list.old self.old records.old) words.entry.x.now words.entry.y.now words.entry.relation «record» result (state_of list.new self.new records.new) }
+        ensures { Adds (kit_of S.Script L.ReadableList R.Record) (growth_of L.GrowingList) (state_of list.old self.old records.old) words.entry.x.now words.entry.y.now words.entry.relation «record» result (state_of list.new self.new records.new) }
     {
         let pair = admit(words, &record)?;
         let x = enter(list, &pair.x, Side::First)?;

@@ -1,6 +1,7 @@
 // From words of symbols to labels, and from labels to numbers of words.
 ghost use Rattle.std.specs.Prelude.{◌≡◌};
 ghost use Rattle.lexicon.specs.Rolls.{number_of};
+ghost use Rattle.history.specs.Kits.{growth_of};
 ghost use Rattle.store.specs.Words.{labels_in, Spelt, PairSpelt, Admitted, KnownTriple, EnteredWord};
 
 use super::labels::{Labels, WordPair};
@@ -78,7 +79,7 @@ pub(super) fn known_triple<L: ReadableList>(
 
 // Enters the spelled word on a side and answers its number. A new word without room is refused.
 pub(super) fn enter<L: GrowingList>(list: &mut L, word: &Labels, side: Side) -> Result<u16, Refusal>
-    ensures { EnteredWord L.ReadableList.roll L.GrowingList.room L.GrowingList.enters list.old (labels_in word.now) side result list.new }
+    ensures { EnteredWord L.ReadableList.roll (growth_of L.GrowingList) list.old (labels_in word.now) side result list.new }
 {
     list.enter(word.as_slice()).map_err(|fault| fault.at(side))
 }
