@@ -2,7 +2,8 @@
 use Rattle.std.proofs.Common.{◌≡◌, ℕ, ◌+◌, ◌<◌, ◌⊎◌, List, length, ℤ, pos, negsuc}
 use Rattle.cells.specs.declared.Cell.{Cell}
 use Rattle.cells.specs.Cells.{free_cell, at, parent}
-use Rattle.cells.specs.Trees.{Edge, Reach, Tree, Held, WholeBut}
+use Rattle.cells.specs.Trees.{Edge, Reach, Held}
+use Rattle.cells.proofs.Trees.{Tree, WholeBut}
 
 -- the used cells of cs stand in ds at the places f, each with its own base, and nothing else does
 pub record Renames (cs ds : List Cell) (f : ℕ → ℕ) : Type 0 where

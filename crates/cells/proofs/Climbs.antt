@@ -4,8 +4,9 @@ use Rattle.std.proofs.lemmas.Bool.{cond-true, cond-false, cond_both, and_parts, 
 use Rattle.cells.specs.declared.Cell.{Cell}
 use Rattle.cells.specs.Cells.{at, base_of, parent, number, is_code, all_codes}
 use Rattle.cells.specs.Walking.{onward, walk, cell_at, number_at, turned, climb, path_to}
-use Rattle.cells.specs.Trees.{Edge, Reach, Tree, Held}
+use Rattle.cells.specs.Trees.{Edge, Reach, Held}
 use Rattle.cells.specs.Laws.{Walks}
+use Rattle.cells.proofs.Trees.{Tree}
 use Rattle.cells.proofs.Basics.{no_some}
 use Rattle.cells.proofs.Paths.{edge_up, root_apart}
 use Rattle.cells.proofs.Counts.{depth}

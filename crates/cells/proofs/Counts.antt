@@ -6,7 +6,8 @@ use Rattle.std.proofs.lemmas.List.FromFn.{length-range_with_len}
 use Rattle.std.proofs.lemmas.Bool.{cases_lt, ltb-true, lt-ltb}
 use Rattle.cells.specs.declared.Cell.{Cell}
 use Rattle.cells.specs.Cells.{free_cell, nat, parent}
-use Rattle.cells.specs.Trees.{Edge, Reach, Tree, In, Apart, Held, Whole}
+use Rattle.cells.specs.Trees.{Edge, Reach, In, Apart, Held}
+use Rattle.cells.proofs.Trees.{Tree, Whole}
 use Rattle.cells.proofs.Begins.{Begins, Beginnings}
 use Rattle.cells.specs.Counting.{used}
 use Rattle.cells.proofs.Paths.{reach_some, reach_same, root_apart, reach_unique, reach_used}
@@ -14,6 +15,18 @@ use Rattle.cells.proofs.Pigeons.{pigeons, in_counting, apart_counting, in_kept, 
 
 pub within : (cs : List Cell) (t : ℕ) → 0 < parent cs t → t < length cs
 within cs t h = ⊎_elim (λ lt. lt) (λ ge. absurd (omega (arith, ap (λ c. nat c.check) (get_or_past cs t free_cell ge)))) (cases_lt t (length cs))
+
+-- the cells in use are those with a parent
+pub in_used : (cs : List Cell) (t : ℕ) → 0 < t → 0 < parent cs t → In (used cs) t
+in_used cs t some h =
+    in_kept (λ t. ltb 0 (parent cs t)) (range_with_len 1 (length cs - 1)) t (lt-ltb 0 (parent cs t) h)
+    (in_counting 1 (length cs - 1) t some (omega (arith, within cs t h)))
+
+pub used_in : (cs : List Cell) (t : ℕ) → In (used cs) t → 0 < parent cs t
+used_in cs t i = ltb-true 0 (parent cs t) (from_kept (λ t. ltb 0 (parent cs t)) (range_with_len 1 (length cs - 1)) t i).0
+
+pub apart_used : (cs : List Cell) → Apart (used cs)
+apart_used cs = apart_kept (λ t. ltb 0 (parent cs t)) (range_with_len 1 (length cs - 1)) (apart_counting 1 (length cs - 1))
 
 abbrev tails : List ℕ → List (List ℕ)
 tails [] = [] ∷ []
@@ -51,9 +64,6 @@ module _ (cs : List Cell) (tree : Tree cs) where
       (λ q i. let k = reach_tails cs p t r q i in (k.0, in_counting 0 (length cs) k.0 (omega arith) (omega (arith, within cs k.0 (reach_used cs tree q k.0 k.1))), k.1)) in
       omega (arith, few, length_tails p, length-range_with_len 0 (length cs))
 
-  in_used : (t : ℕ) → 0 < t → 0 < parent cs t → In (used cs) t
-  in_used t some h = in_kept (λ t. ltb 0 (parent cs t)) (range_with_len 1 (length cs - 1)) t (lt-ltb 0 (parent cs t) h) (in_counting 1 (length cs - 1) t some (omega (arith, within cs t h)))
-
   module _ (whole : Whole cs) where
     -- each path leads on to a leaf
     pub extends : (k : ℕ) (p : List ℕ) (t : ℕ) → length cs ≤ length p + k → Reach cs p t → (t ≡ 1 → ⊥) → Begins cs p
@@ -81,9 +91,9 @@ module _ (cs : List Cell) (tree : Tree cs) where
 
       counts_them : length (used cs) ≡ 1 + length bs
       counts_them =
-          let some = λ (p : List ℕ). λ (t : ℕ). λ (r : Reach cs p t). in_used t (reach_some cs p t r) (reach_used cs tree p t r) in
-          let few = pigeons (λ t p. Reach cs p t) (λ t u p. reach_same cs p t u) (used cs) ([] ∷ bs) (apart_kept (λ t. ltb 0 (parent cs t)) (range_with_len 1 (length cs - 1)) (apart_counting 1 (length cs - 1)))
-          (λ t i. let r = tree.reach t (ltb-true 0 (parent cs t) (from_kept (λ t. ltb 0 (parent cs t)) (range_with_len 1 (length cs - 1)) t i).0) in (r.0, path_in r.0 t r.1, r.1)) in
+          let some = λ (p : List ℕ). λ (t : ℕ). λ (r : Reach cs p t). in_used cs t (reach_some cs p t r) (reach_used cs tree p t r) in
+          let few = pigeons (λ t p. Reach cs p t) (λ t u p. reach_same cs p t u) (used cs) ([] ∷ bs) (apart_used cs)
+          (λ t i. let r = tree.reach t (used_in cs t i) in (r.0, path_in r.0 t r.1, r.1)) in
           let many = pigeons (λ p t. Reach cs p t) (λ p q t. reach_unique cs p q t) ([] ∷ bs) (used cs) (λ i. all.some [] i refl, all.apart)
           (λ p i. let r = cell_in p i in (r.0, some p r.0 r.1, r.1)) in
           omega (arith, few, many)

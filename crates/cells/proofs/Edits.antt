@@ -4,7 +4,8 @@ use Rattle.std.proofs.lemmas.List.{get_or-set_same, get_or-set_other}
 use Rattle.std.proofs.lemmas.Bool.{cases_eq}
 use Rattle.cells.specs.declared.Cell.{Cell}
 use Rattle.cells.specs.Cells.{free_cell, at, nat, base_of, parent}
-use Rattle.cells.specs.Trees.{Edge, Reach, Tree, Lone}
+use Rattle.cells.specs.Trees.{Edge, Reach}
+use Rattle.cells.proofs.Trees.{Tree, Lone}
 use Rattle.cells.proofs.Changes.{Grown, Shrunk, Same}
 use Rattle.cells.proofs.Paths.{edge_up, reach_some, root_apart, reach_unique, reach_used}
 use Rattle.cells.proofs.Counts.{within}

@@ -5,14 +5,15 @@ use Rattle.std.proofs.lemmas.Bool.{cond_both, cases_eq, cases_lt}
 use Rattle.cells.specs.declared.Cell.{Cell}
 use Rattle.cells.specs.Cells.{at, nat, parent, is_leaf, child, child_codes, all_codes}
 use Rattle.cells.specs.Placing.{Arrays, Spot, place, grow, extend, found_or, enter_from, enter}
-use Rattle.cells.specs.Walking.{turned}
-use Rattle.cells.specs.Trees.{Edge, Reach, Held, NotLeaf}
+use Rattle.cells.specs.Walking.{number_at, turned}
+use Rattle.cells.specs.Trees.{Edge, Reach, Held}
 use Rattle.cells.specs.Invariant.{Sound}
-use Rattle.cells.specs.Laws.{Enters, Uses}
+use Rattle.cells.specs.Laws.{Enters}
 use Rattle.cells.specs.Counting.{in_use}
 use Rattle.std.specs.List.{range_with_len}
 use Rattle.std.specs.Prelude.{filter, nat_lt}
-use Rattle.cells.proofs.Basics.{no_some, some_same, leaf_same, no_codes}
+use Rattle.cells.proofs.Trees.{NotLeaf}
+use Rattle.cells.proofs.Basics.{no_some, some_same, not_leaf, leaf_same, no_codes}
 use Rattle.cells.proofs.Paths.{reach_some, reach_same}
 use Rattle.cells.proofs.Walks.{Codes, begun, child_edge, edge_child, listing}
 use Rattle.cells.proofs.Climbs.{turned_same, codes_from, held_number}
@@ -127,8 +128,19 @@ entering cs is p n xs h none =
     (cases_lt (length cs) 2))
     (λ c e. absurd (no_some xs e))
 
-pub short : (cs : List Cell) (is p : List ℕ) (n : ℕ) → length cs < 2 → (enter cs is p n ≡ None) × (in_use cs ≡ 0)
-short cs is p n few = (by (enter cs is p n) refl, ap (λ (k : ℕ). length (filter (λ t. nat_lt 0 (parent cs t)) (range_with_len 1 k))) none)
+-- nor do they hold one
+short_held : (cs : List Cell) (p : List ℕ) (n : ℕ) → length cs < 2 → Held cs p n → ⊥
+short_held cs [] n few h = not_leaf 0 n (sym (ap (λ c. c.base) (short_root cs few)) ∙ ap (λ t. (at cs t).base) (sym h.1) ∙ h.2)
+short_held cs (a ∷ p) n few h =
+    let edge = (root_inner cs a p h.0 h.1).2 in
+    omega (arith, edge.inner, ap (λ c. nat c.base) (short_root cs few))
+
+pub short : (cs : List Cell) (is p : List ℕ) (n : ℕ) → length cs < 2 → (number_at cs p ≡ None) × (enter cs is p n ≡ None) × (in_use cs ≡ 0)
+short cs is p n few = (
+  number_none cs p (λ m h. short_held cs (turned p []) m few h),
+  by (enter cs is p n) refl,
+  ap (λ (k : ℕ). length (filter (λ t. nat_lt 0 (parent cs t)) (range_with_len 1 k))) none,
+)
   where
     none : length cs - 1 ≡ 0
     none = omega arith
@@ -136,9 +148,3 @@ short cs is p n few = (by (enter cs is p n) refl, ap (λ (k : ℕ). length (filt
     by : (o : Option Arrays) → enter cs is p n ≡ o → enter cs is p n ≡ None
     by None e = e
     by (Some xs) e = absurd (cond_both (all_codes p) (enter_from cs is 1 p n) None (λ o. o ≡ Some xs → ⊥) (λ c e. short_enter cs is p n xs few (codes_from p c) e) (λ c e. no_some xs e) e)
-
-pub uses : (cs : List Cell) (is : List ℕ) (t : ℕ) → Sound cs is → t < length cs → Uses cs t
-uses cs is t s lt = record {
-  used = λ h f. absurd (omega (arith, h, ap nat f.2));
-  free = λ e. (lt, ap (λ (c : Cell). c.base) (s.blank t e), ap (λ (c : Cell). c.check) (s.blank t e));
-}

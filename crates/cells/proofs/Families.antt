@@ -1,27 +1,19 @@
 -- The child codes of a node, and the room that a search has found for them.
-use Rattle.std.proofs.Common.{◌≡◌, ℕ, zero, suc, ◌+◌, ◌<◌, true, false, cond, ◌&&◌, ltb, List, [], ◌∷◌, ◌++◌, length, get_or, is_some, sym, refl, ap, ◌∙◌, subst, inl, inr, arith}
+use Rattle.std.proofs.Common.{◌≡◌, ℕ, zero, suc, ◌+◌, ◌<◌, true, false, cond, ◌&&◌, ltb, List, [], ◌∷◌, ◌++◌, length, get_or, is_some, refl, ap, ◌∙◌, subst, inl, arith}
 use Rattle.std.proofs.lemmas.Bool.{both_ways}
 use Rattle.cells.specs.declared.Cell.{Cell}
 use Rattle.cells.specs.Cells.{nat, base_of, parent, child, codes_below, some_code}
 use Rattle.cells.specs.Placing.{AllFree}
-use Rattle.cells.specs.Trees.{In, Edge, Tree, Lone, Family, Room}
+use Rattle.cells.specs.Trees.{Edge, Room}
+use Rattle.cells.proofs.Trees.{Tree, Lone, Family}
+use Rattle.cells.proofs.Members.{in_at, at_in}
 use Rattle.cells.proofs.Paths.{edge_up, reach_some}
 use Rattle.cells.proofs.Counts.{within}
-
-pub in_getD : (xs : List ℕ) (k : ℕ) → k < length xs → In xs (get_or xs k 0)
-in_getD [] k h = absurd (omega arith)
-in_getD (x ∷ xs) zero h = inl refl
-in_getD (x ∷ xs) (suc k) h = inr (in_getD xs k (omega arith))
-
-pub getD_in : (xs : List ℕ) (a : ℕ) → In xs a → (k : ℕ) × (k < length xs) × (get_or xs k 0 ≡ a)
-getD_in [] a i = absurd i
-getD_in (x ∷ xs) a (inl e) = (0, omega arith, sym e)
-getD_in (x ∷ xs) a (inr i) = let h = getD_in xs a i in (suc h.0, omega (arith, h.1), h.2)
 
 -- what the search for a base has found is room
 pub room_from : (cs : List Cell) (codes : List ℕ) (e : ℕ) → AllFree cs codes e → Room cs codes e
 room_from cs codes e all a i =
-    let h = getD_in codes a i in
+    let h = at_in codes a 0 i in
     let k = all h.0 h.1 in
     subst (λ x. (e + x < length cs) × (parent cs (e + x) ≡ 0)) h.2 (k.0, ap nat k.2)
 
@@ -29,7 +21,7 @@ room_from cs codes e all a i =
 pub old_within : (cs : List Cell) (s : ℕ) (codes : List ℕ) → Tree cs → 0 < parent cs s → Family cs s codes → (k : ℕ) → k < length codes → base_of cs s + get_or codes k 0 < length cs
 old_within cs s codes tree used fam k h =
     let a : ℕ = get_or codes k 0 in
-    let e = fam.sound a (in_getD codes k h) in
+    let e = fam.sound a (in_at codes k 0 h) in
     within cs (base_of cs s + a) (omega (arith, edge_up cs s a (base_of cs s + a) e, reach_some cs (tree.reach s used).0 s (tree.reach s used).1))
 
 -- a node with a code has a child, and one without has none

@@ -6,13 +6,15 @@ use Rattle.cells.specs.declared.Cell.{Cell}
 use Rattle.cells.specs.Cells.{at, nat, base_of, parent, is_free, child_codes, some_code}
 use Rattle.cells.specs.Placing.{lowest, Lowest, relocated, index_relocated, placed, Spot, placed_at, place, then_place, grow}
 use Rattle.cells.specs.Walking.{turned}
-use Rattle.cells.specs.Trees.{In, Edge, Reach, Tree, Held, Lone, NotLeaf, WholeBut, Family, Room}
+use Rattle.cells.specs.Trees.{In, Edge, Reach, Held, Room}
+use Rattle.cells.proofs.Trees.{Tree, Lone, NotLeaf, WholeBut, Family}
 use Rattle.cells.proofs.Changes.{Placed}
 pub use Rattle.cells.proofs.Basics.{no_some, some_same}
 use Rattle.cells.proofs.Basics.{not_leaf}
 use Rattle.cells.proofs.Lowests.{decides_free, lowest_holds}
 use Rattle.cells.proofs.Paths.{reach_some, reach_same, reach_used}
-use Rattle.cells.proofs.Walks.{Codes, listing, in_left, in_right}
+use Rattle.cells.proofs.Walks.{Codes, listing}
+use Rattle.cells.proofs.Members.{in_front, in_rest}
 use Rattle.cells.proofs.Relocations.{moves_well}
 use Rattle.cells.proofs.Returns.{held_again}
 use Rattle.cells.proofs.Places.{taking, placing, free_m, long_m, m}
@@ -36,7 +38,7 @@ module _ (cs : List Cell) (is : List ℕ) (s a : ℕ) (z : ℤ) where
   found None h r e = absurd (no_some r e)
   found (Some b) h r e =
       let room : Room cs ((child_codes cs s) ++ a ∷ []) b = room_from cs ((child_codes cs s) ++ a ∷ []) b h.1 in
-      inr (b, h.0, (λ c i. room c (⊎_elim (λ k. in_right (child_codes cs s) (a ∷ []) c (inl k)) (λ k. in_left (child_codes cs s) (a ∷ []) c k) i)), some_same _ r e)
+      inr (b, h.0, (λ c i. room c (⊎_elim (λ k. in_rest (child_codes cs s) (a ∷ []) c (inl k)) (λ k. in_front (child_codes cs s) (a ∷ []) c k) i)), some_same _ r e)
 
   pub place_ways : (r : Spot) → place cs is s a z ≡ Some r → Here r ⊎ There r
   place_ways r =

@@ -6,8 +6,9 @@ use Rattle.std.proofs.lemmas.Bool.{cases_eq, cases_lt, cond_both, cond-false, lt
 use Rattle.cells.specs.declared.Cell.{Cell}
 use Rattle.cells.specs.Cells.{free_cell, at, base_of, parent, entry}
 use Rattle.cells.specs.Placing.{moved_list, moves, reindexed, index_moves, relocated, index_relocated}
-use Rattle.cells.specs.Trees.{In, Apart, Tree, NotLeaf, Family, Room}
+use Rattle.cells.specs.Trees.{In, Apart, Room}
 use Rattle.cells.specs.Index.{Leads, Entered}
+use Rattle.cells.proofs.Trees.{Tree, NotLeaf, Family}
 use Rattle.cells.proofs.Changes.{Renames}
 use Rattle.cells.proofs.Basics.{not_leaf, leaf_same}
 use Rattle.cells.proofs.Paths.{reach_some}

@@ -1,4 +1,6 @@
 pub mod Basics
+pub mod Trees
+pub mod Members
 pub mod Changes
 pub mod Paths
 pub mod Renamings
@@ -12,6 +14,7 @@ pub mod Places
 pub mod Walks
 pub mod Lowests
 pub mod Climbs
+pub mod Labels
 pub mod Leaves
 pub mod Families
 pub mod Sounds
@@ -23,5 +26,7 @@ pub mod Prunes
 pub mod TakesOut
 pub mod Undoes
 pub mod Tallies
+pub mod HeldPaths
 pub mod Starts
+pub mod InUse
 pub mod Examples

@@ -5,9 +5,10 @@ use Rattle.cells.specs.declared.Cell.{Cell}
 use Rattle.cells.specs.Cells.{at, nat, parent, child_codes, some_code}
 use Rattle.cells.specs.Placing.{relocated, index_relocated}
 use Rattle.cells.specs.Walking.{turned}
-use Rattle.cells.specs.Trees.{Edge, Tree, Lone, NotLeaf, Whole, Family, Room}
+use Rattle.cells.specs.Trees.{Edge, Room}
 use Rattle.cells.specs.Invariant.{Sound}
 use Rattle.cells.specs.Laws.{Relocates}
+use Rattle.cells.proofs.Trees.{Tree, Lone, NotLeaf, Whole, Family}
 use Rattle.cells.proofs.Basics.{no_codes}
 use Rattle.cells.proofs.Paths.{reach_some}
 use Rattle.cells.proofs.Counts.{within}

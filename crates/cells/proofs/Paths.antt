@@ -2,7 +2,8 @@
 use Rattle.std.proofs.Common.{◌≡◌, ℕ, ◌+◌, ◌<◌, List, [], ◌∷◌, sym, refl, ap, ◌∙◌, subst, arith}
 use Rattle.cells.specs.declared.Cell.{Cell}
 use Rattle.cells.specs.Cells.{nat, base_of, parent}
-use Rattle.cells.specs.Trees.{Edge, Reach, Tree}
+use Rattle.cells.specs.Trees.{Edge, Reach}
+use Rattle.cells.proofs.Trees.{Tree}
 
 pub edge_up : (cs : List Cell) (s a t : ℕ) → Edge cs s a t → parent cs t ≡ s
 edge_up cs s a t e = ap nat e.check

@@ -4,7 +4,8 @@ use Rattle.std.proofs.lemmas.List.{set-set, set-get_or}
 use Rattle.std.proofs.lemmas.Bool.{cases_eq}
 use Rattle.cells.specs.declared.Cell.{Cell}
 use Rattle.cells.specs.Cells.{free_cell, at, nat, base_of, parent}
-use Rattle.cells.specs.Trees.{Edge, Reach, Tree, In, Held, WholeBut, Family, Room, Lone, NotLeaf}
+use Rattle.cells.specs.Trees.{Edge, Reach, In, Held, Room}
+use Rattle.cells.proofs.Trees.{Tree, WholeBut, Family, Lone, NotLeaf}
 use Rattle.cells.proofs.Changes.{Shifts, Grown, Shrunk, Placed, Freed}
 use Rattle.cells.specs.Placing.{relocated, placed}
 use Rattle.cells.proofs.Paths.{edge_up, reach_some, reach_same, reach_unique, reach_used}

@@ -5,7 +5,8 @@ use Rattle.std.proofs.lemmas.Bool.{cond_both, cases_eq, cases_lt}
 use Rattle.cells.specs.declared.Cell.{Cell}
 use Rattle.cells.specs.Cells.{free_cell, at, nat, base_of, parent, child_codes, some_code}
 use Rattle.cells.specs.Pruning.{prune}
-use Rattle.cells.specs.Trees.{Edge, Reach, Tree, Held, Lone, Ends, WholeBut, Whole, Family}
+use Rattle.cells.specs.Trees.{Edge, Reach, Held}
+use Rattle.cells.proofs.Trees.{Tree, Lone, Ends, WholeBut, Whole, Family}
 use Rattle.cells.proofs.Changes.{Freed}
 use Rattle.cells.proofs.Paths.{edge_up, reach_some, reach_same, root_apart}
 use Rattle.cells.proofs.Walks.{listing}

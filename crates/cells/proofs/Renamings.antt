@@ -3,7 +3,8 @@ use Rattle.std.proofs.Common.{◌≡◌, ℕ, ◌+◌, ◌<◌, List, [], ◌∷
 use Rattle.std.proofs.lemmas.Bool.{cases_eq}
 use Rattle.cells.specs.declared.Cell.{Cell}
 use Rattle.cells.specs.Cells.{at, nat, base_of, parent}
-use Rattle.cells.specs.Trees.{Edge, Reach, Tree}
+use Rattle.cells.specs.Trees.{Edge, Reach}
+use Rattle.cells.proofs.Trees.{Tree}
 use Rattle.cells.proofs.Changes.{Renames, Rebased, Shifts, Moved}
 use Rattle.cells.proofs.Paths.{edge_up, reach_some, root_apart, reach_unique, reach_used}
 

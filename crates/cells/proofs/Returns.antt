@@ -4,7 +4,8 @@ use Rattle.std.proofs.lemmas.List.{ext_get_or}
 use Rattle.std.proofs.lemmas.Bool.{cases_eq}
 use Rattle.cells.specs.declared.Cell.{Cell}
 use Rattle.cells.specs.Cells.{free_cell, at, nat, base_of, parent}
-use Rattle.cells.specs.Trees.{Edge, Reach, Tree, Held, Ends, WholeBut, Family, Room, NotLeaf}
+use Rattle.cells.specs.Trees.{Edge, Reach, Held, Room}
+use Rattle.cells.proofs.Trees.{Tree, Ends, WholeBut, Family, NotLeaf}
 use Rattle.cells.proofs.Changes.{Moved}
 use Rattle.cells.specs.Placing.{relocated}
 use Rattle.cells.proofs.Paths.{edge_up, reach_some, reach_same, root_apart, reach_used}

@@ -6,8 +6,9 @@ use Rattle.std.proofs.lemmas.Bool.{both_ways, cases_Bool, eqb-true, eq-eqb, ltb-
 use Rattle.cells.specs.declared.Cell.{Cell}
 use Rattle.cells.specs.Cells.{free_cell, at, nat, base_of, parent, is_leaf, edge, child, child_codes, some_code}
 use Rattle.cells.specs.Walking.{cell_at, is_found, turned, path_to}
-use Rattle.cells.specs.Trees.{Reach, Tree, Ends, Whole, NotLeaf}
+use Rattle.cells.specs.Trees.{Reach}
 use Rattle.cells.specs.Invariant.{Sound}
+use Rattle.cells.proofs.Trees.{Tree, Ends, Whole, NotLeaf}
 use Rattle.cells.proofs.Basics.{not_leaf, none_code}
 use Rattle.cells.proofs.Paths.{reach_some}
 use Rattle.cells.proofs.Walks.{listing}
@@ -35,7 +36,7 @@ inner_is (pos k) e n q = not_leaf k n q
 inner_is (negsuc k) e n q = both_ways true e refl
 
 module _ (cs : List Cell) (is : List ℕ) (h : Sound cs is) where
-  used_path : (t : ℕ) → 0 < parent cs t → cell_at cs (path_to cs t) ≡ Some t
+  pub used_path : (t : ℕ) → 0 < parent cs t → cell_at cs (path_to cs t) ≡ Some t
   used_path t used = found_is (cell_at cs (path_to cs t)) t (h.reached t used)
 
   pub reach_of : (t : ℕ) → 0 < parent cs t → (p : List ℕ) × Reach cs p t

@@ -7,9 +7,10 @@ use Rattle.cells.specs.Cells.{free_cell, root_cell, at, nat, parent, number, chi
 use Rattle.cells.specs.Placing.{Arrays}
 use Rattle.cells.specs.Walking.{onward, cell_at, turned}
 use Rattle.cells.specs.Pruning.{prune, root_reset, taken_out, taken_at}
-use Rattle.cells.specs.Trees.{Reach, Tree, Held, Lone, Whole}
+use Rattle.cells.specs.Trees.{Reach, Held}
 use Rattle.cells.specs.Invariant.{Sound}
 use Rattle.cells.specs.Laws.{TakesOut, TakingOut}
+use Rattle.cells.proofs.Trees.{Tree, Lone, Whole}
 use Rattle.cells.proofs.Changes.{Same}
 use Rattle.cells.proofs.Basics.{no_some, some_same, not_leaf, leaf_same, no_codes, none_code}
 use Rattle.cells.proofs.Paths.{reach_some, reach_same}

@@ -1,4 +1,4 @@
--- The cells in use are one more than the different beginnings of the held paths.
+-- The beginnings of paths, and that the cells in use are one more than those of the held paths.
 use Rattle.std.proofs.Common.{◌≡◌, ℕ, zero, suc, ◌+◌, ◌<◌, ◌⊎◌, List, [], ◌∷◌, ◌++◌, map, length, is_some, Some, Decides, sym, refl, ap, ◌∙◌, subst, inl, inr, ⊎_elim, append_assoc, arith}
 use Rattle.std.proofs.lemmas.List.{length-map}
 use Rattle.std.proofs.lemmas.Bool.Decides.{Decides-or, not_from_Decides}
@@ -8,8 +8,9 @@ use Rattle.cells.specs.Walking.{number_at, turned}
 use Rattle.cells.specs.Trees.{In, Apart, Held}
 use Rattle.cells.specs.Counting.{in_use, has, add, add_beginnings, beginnings}
 use Rattle.cells.specs.Invariant.{Sound}
-use Rattle.cells.specs.Laws.{Holds}
+use Rattle.cells.specs.Laws.{Holds, BeginningsOf}
 use Rattle.cells.proofs.Basics.{some_is}
+use Rattle.cells.proofs.Members.{in_map, map_in}
 use Rattle.cells.proofs.Begins.{Beginnings}
 use Rattle.cells.proofs.Counts.{counts}
 use Rattle.cells.proofs.Climbs.{turned_back, number_held, held_number, number_positive}
@@ -82,19 +83,19 @@ all_in (k ∷ ks) [] y i ne = absurd (ne refl)
 all_in (k ∷ ks) (c ∷ x) y (inl e) ne = subst (λ l. In (add_beginnings [] l (beginnings ks)) (c ∷ x)) e (path_new [] c x y (beginnings ks))
 all_in (k ∷ ks) (c ∷ x) y (inr i) ne = path_old [] k (beginnings ks) (c ∷ x) (all_in ks (c ∷ x) y i ne)
 
+pub beginning : (ks : List (List ℕ)) → BeginningsOf ks (beginnings ks)
+beginning ks = record {
+  sound = λ p i. let k = in_all ks p i in (k.2, (k.0, k.1));
+  whole = λ p rest ne i. all_in ks p rest i ne;
+  once = apart_all ks;
+}
+
 -- turned round
 abbrev round : List ℕ → List ℕ
 round p = turned p []
 
-in_map : (bs : List (List ℕ)) (p : List ℕ) → In bs p → In (map round bs) (round p)
-in_map [] p i = i
-in_map (b ∷ bs) p (inl e) = inl (ap round e)
-in_map (b ∷ bs) p (inr i) = inr (in_map bs p i)
-
 from_map : (bs : List (List ℕ)) (p : List ℕ) → In (map round bs) p → In bs (round p)
-from_map [] p i = i
-from_map (b ∷ bs) p (inl e) = inl (ap round e ∙ turned_back b)
-from_map (b ∷ bs) p (inr i) = inr (from_map bs p i)
+from_map bs p i = let k = map_in round bs p i in subst (In bs) (sym (ap round k.2 ∙ turned_back k.0)) k.1
 
 apart_map : (bs : List (List ℕ)) → Apart bs → Apart (map round bs)
 apart_map [] a = tt
@@ -133,7 +134,7 @@ module _ (cs : List Cell) (ks : List (List ℕ)) (h : Holds cs ks) where
     whole = λ p ne b.
         let i : In ks (round (b.0 ++ p)) = held_in (b.0 ++ p) b.1 b.2 in
         let j : In (beginnings ks) (round p) = all_in ks (round p) (round b.0) (subst (In ks) (round_append b.0 p) i) (λ e. ne (sym (turned_back p) ∙ ap round e)) in
-        subst (In (map round (beginnings ks))) (turned_back p) (in_map (beginnings ks) (round p) j);
+        subst (In (map round (beginnings ks))) (turned_back p) (in_map round (beginnings ks) (round p) j);
   }
 
 pub counting : (cs : List Cell) (is : List ℕ) (ks : List (List ℕ)) → 1 < length cs → Sound cs is → Holds cs ks → in_use cs ≡ 1 + length (beginnings ks)

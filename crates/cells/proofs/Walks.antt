@@ -1,13 +1,15 @@
 -- The walk follows the paths.
-use Rattle.std.proofs.Common.{◌≡◌, ℕ, zero, suc, ◌+◌, ◌<◌, true, false, cond, ◌&&◌, ltb, ◌⊎◌, List, [], ◌∷◌, ◌++◌, length, ℤ, pos, negsuc, is_some, Some, None, Option, sym, refl, ap, ◌∙◌, subst, inl, inr, ⊎_elim, append-nil, arith}
+use Rattle.std.proofs.Common.{◌≡◌, ℕ, zero, suc, ◌+◌, ◌<◌, true, false, cond, ◌&&◌, ltb, List, [], ◌∷◌, ◌++◌, length, ℤ, pos, negsuc, is_some, Some, None, Option, sym, refl, ap, ◌∙◌, subst, inl, inr, ⊎_elim, append-nil, arith}
 use lib.Signed.{lt_z}
 use Rattle.std.proofs.lemmas.Bool.{cases_eq, cond-true, cond_both, and_parts, and_from, lt-ltb, ltb-true, eqb-true, both_ways}
 use Rattle.cells.specs.declared.Cell.{Cell}
 use Rattle.cells.specs.Cells.{at, nat, base_of, parent, same_int, edge, child, codes_below}
-use Rattle.cells.specs.Trees.{Edge, Reach, In, Apart, Family}
+use Rattle.cells.specs.Trees.{Edge, Reach, In, Apart}
 use Rattle.cells.specs.Walking.{onward, walk, turned}
+use Rattle.cells.proofs.Trees.{Family}
 use Rattle.cells.proofs.Basics.{no_some, some_is}
 use Rattle.cells.proofs.Paths.{edge_up, reach_some, reach_same}
+use Rattle.cells.proofs.Members.{in_append, in_front, in_rest}
 use Rattle.cells.proofs.Counts.{within}
 use Rattle.cells.proofs.Relocations.{positive, same_int_yes}
 
@@ -67,20 +69,6 @@ module _ (cs : List Cell) where
       ap (λ o. onward o (λ u. walk cs u p)) (edge_child cs s a (reach_some cs q s r) w.0 e) ∙ reach_walk p (a ∷ q) w.0 t w.1 k
 
 -- the codes of a family
-in_append : (xs ys : List ℕ) (a : ℕ) → In (xs ++ ys) a → In xs a ⊎ In ys a
-in_append [] ys a i = inr i
-in_append (x ∷ xs) ys a (inl e) = inl (inl e)
-in_append (x ∷ xs) ys a (inr i) = ⊎_elim (λ k. inl (inr k)) (λ k. inr k) (in_append xs ys a i)
-
-pub in_left : (xs ys : List ℕ) (a : ℕ) → In xs a → In (xs ++ ys) a
-in_left [] ys a i = absurd i
-in_left (x ∷ xs) ys a (inl e) = inl e
-in_left (x ∷ xs) ys a (inr i) = inr (in_left xs ys a i)
-
-pub in_right : (xs ys : List ℕ) (a : ℕ) → In ys a → In (xs ++ ys) a
-in_right [] ys a i = i
-in_right (x ∷ xs) ys a i = inr (in_right xs ys a i)
-
 apart_push : (xs : List ℕ) (n : ℕ) → Apart xs → (In xs n → ⊥) → Apart (xs ++ n ∷ [])
 apart_push [] n a ne = (λ i. i, tt)
 apart_push (x ∷ xs) n a ne =
@@ -109,9 +97,9 @@ module _ (cs : List Cell) (s : ℕ) (some : 0 < s) where
   listed zero a lt h is = absurd (omega arith)
   listed (suc n) a lt h is =
       ⊎_elim
-      (λ e. in_right (codes_below cs s n) (last n) a
+      (λ e. in_rest (codes_below cs s n) (last n) a
       (subst (λ l. In l a) (sym (cond-true (ltb 0 n && is_some (child cs s n)) (n ∷ []) [] (and_from _ _ (lt-ltb 0 n (omega arith)) (subst (λ x. is_some (child cs s x) ≡ true) e is)))) (inl e)))
-      (λ ne. in_left (codes_below cs s n) (last n) a (listed n a (omega arith) h is))
+      (λ ne. in_front (codes_below cs s n) (last n) a (listed n a (omega arith) h is))
       (cases_eq a n)
 
   apart_below : (n : ℕ) → Apart (codes_below cs s n)

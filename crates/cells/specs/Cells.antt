@@ -1,5 +1,5 @@
 -- Cells, and what an array of them says.
-use Rattle.std.specs.Prelude.{ℕ, zero, suc, ◌+◌, Bool, true, false, cond, ◌&&◌, List, [], ◌∷◌, ◌++◌, length, ℤ, pos, negsuc, is_some, Some, None, Option, ◌==◌, int_lt, nat_lt, slice_index_or}
+use Rattle.std.specs.Prelude.{ℕ, zero, suc, ◌+◌, ◌-◌, Bool, true, false, cond, ◌&&◌, List, [], ◌∷◌, ◌++◌, length, map, ℤ, pos, negsuc, is_some, Some, None, Option, ◌==◌, int_lt, nat_le, nat_lt, slice_index_or}
 use Rattle.cells.specs.declared.Cell.{Cell}
 
 -- a free cell
@@ -82,3 +82,15 @@ is_code a = nat_lt 0 a && nat_lt a 258
 abbrev pub all_codes : List ℕ → Bool
 all_codes [] = true
 all_codes (a ∷ more) = is_code a && all_codes more
+
+-- the code of the label b
+abbrev pub label_code : ℕ → ℕ
+label_code b = b + 2
+
+-- the label of the code a: none where it is the code of no label
+abbrev pub label_of : ℕ → Option ℕ
+label_of a = cond (nat_le 2 a && nat_lt a 258) (Some (a - 2)) None
+
+-- the path of labels: the code of each
+abbrev pub path_of_labels : List ℕ → List ℕ
+path_of_labels labels = map label_code labels

@@ -1,8 +1,9 @@
--- How many cells are in use, and the beginnings of paths.
-use Rattle.std.specs.Prelude.{ℕ, ◌-◌, Bool, true, false, cond, ◌&&◌, ◌||◌, List, [], ◌∷◌, ◌++◌, length, filter, ◌==◌, nat_lt}
+-- How many cells are in use, the held paths, and the beginnings of paths.
+use Rattle.std.specs.Prelude.{ℕ, ◌-◌, Bool, true, false, cond, ◌&&◌, ◌||◌, List, [], ◌∷◌, ◌++◌, length, map, filter, ◌==◌, nat_lt}
 use Rattle.std.specs.List.{range_with_len}
 use Rattle.cells.specs.declared.Cell.{Cell}
-use Rattle.cells.specs.Cells.{parent}
+use Rattle.cells.specs.Cells.{parent, is_leaf}
+use Rattle.cells.specs.Walking.{path_to}
 
 -- the cells in use, from 1 up
 abbrev pub used : List Cell → List ℕ
@@ -11,6 +12,10 @@ used cs = filter (λ t. nat_lt 0 (parent cs t)) (range_with_len 1 (length cs - 1
 -- how many cells are in use
 abbrev pub in_use : List Cell → ℕ
 in_use cs = length (used cs)
+
+-- the held paths: the one that climbing spells from each leaf among the cells in use
+abbrev pub held_paths : List Cell → List (List ℕ)
+held_paths cs = map (path_to cs) (filter (is_leaf cs) (used cs))
 
 -- whether two paths are equal
 abbrev pub same_path : List ℕ → List ℕ → Bool

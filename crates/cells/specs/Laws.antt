@@ -1,12 +1,12 @@
 -- What the rules of the double array come to, in terms of paths, numbers and the count of cells.
-use Rattle.std.specs.Prelude.{◌≡◌, ℕ, suc, ◌+◌, ◌<◌, true, false, cond, List, [], ◌∷◌, length, ℤ, pos, negsuc, is_some, Some, None, ◌==◌, ◌≢◌, slice_index, slice_set}
+use Rattle.std.specs.Prelude.{◌≡◌, ℕ, suc, ◌+◌, ◌<◌, true, false, cond, ◌⊎◌, List, [], ◌∷◌, ◌++◌, length, ℤ, pos, negsuc, is_some, Some, None, ◌==◌, ◌≢◌, slice_index, slice_set}
 use Rattle.cells.specs.declared.Cell.{Cell}
 use Rattle.cells.specs.Cells.{free_cell, root_cell, at, base_of, parent, is_leaf, child, child_codes, some_code, all_codes}
 use Rattle.cells.specs.Placing.{Free, Lowest, lowest, relocated, index_relocated, Arrays, Spot, place, grow, enter, undo}
 use Rattle.cells.specs.Walking.{cell_at, number_at, turned, path_to}
 use Rattle.cells.specs.Pruning.{take_out}
-use Rattle.cells.specs.Trees.{In, Reach, Held, Room}
-use Rattle.cells.specs.Counting.{in_use, same_path, beginnings}
+use Rattle.cells.specs.Trees.{In, Apart, Reach, Held, Room}
+use Rattle.cells.specs.Counting.{used, in_use, held_paths, same_path, beginnings}
 use Rattle.cells.specs.Invariant.{Sound}
 
 -- the search finds the lowest base with a free cell for each of the codes, and none only where there is none
@@ -127,19 +127,38 @@ pub record Holds (cs : List Cell) (ks : List (List ℕ)) : Type 0 where
   pub sound : (p : List ℕ) → In ks p → is_some (number_at cs p) ≡ true
   pub whole : (p : List ℕ) → is_some (number_at cs p) ≡ true → In ks p
 
+-- climbing from the leaves spells exactly the held paths, in an array of any length
+abbrev pub Holding : Type 0
+Holding = (cs : List Cell) (is : List ℕ) → Sound cs is → Holds cs (held_paths cs)
+
 -- the cells in use are one more than the different non-empty beginnings of the held paths, in an array of two cells or more
 abbrev pub Counting : Type 0
 Counting = (cs : List Cell) (is : List ℕ) (ks : List (List ℕ)) → 1 < length cs → Sound cs is → Holds cs ks → in_use cs ≡ 1 + length (beginnings ks)
 
--- a cell that is counted as in use is not free, and any other is
-pub record Uses (cs : List Cell) (t : ℕ) : Type 0 where
-  pub used : 0 < parent cs t → Free cs t → ⊥
-  pub free : parent cs t ≡ 0 → Free cs t
+-- bs are the different non-empty beginnings of the paths ks
+pub record BeginningsOf (ks bs : List (List ℕ)) : Type 0 where
+  -- each is one
+  pub sound : (p : List ℕ) → In bs p → (p ≢ []) × ((rest : List ℕ) × In ks (p ++ rest))
+  -- and each is there
+  pub whole : (p rest : List ℕ) → p ≢ [] → In ks (p ++ rest) → In bs p
+  -- once
+  pub once : Apart bs
 
--- of each cell of sound cells
+-- the beginnings that are counted are these
+abbrev pub Beginning : Type 0
+Beginning = (ks : List (List ℕ)) → BeginningsOf ks (beginnings ks)
+
+-- each cell is either free or counted as in use, and counted once
+pub record Uses (cs : List Cell) : Type 0 where
+  pub either : (t : ℕ) → t < length cs → Free cs t ⊎ In (used cs) t
+  pub other : (t : ℕ) → In (used cs) t → Free cs t → ⊥
+  pub within : (t : ℕ) → In (used cs) t → t < length cs
+  pub once : Apart (used cs)
+
+-- of sound cells
 abbrev pub Using : Type 0
-Using = (cs : List Cell) (is : List ℕ) (t : ℕ) → Sound cs is → t < length cs → Uses cs t
+Using = (cs : List Cell) (is : List ℕ) → Sound cs is → Uses cs
 
--- fewer than two cells have no place for any path, and none of them is in use
+-- fewer than two cells hold no path and have no place for any, and none of them is counted as in use
 abbrev pub Short : Type 0
-Short = (cs : List Cell) (is p : List ℕ) (n : ℕ) → length cs < 2 → (enter cs is p n ≡ None) × (in_use cs ≡ 0)
+Short = (cs : List Cell) (is p : List ℕ) (n : ℕ) → length cs < 2 → (number_at cs p ≡ None) × (enter cs is p n ≡ None) × (in_use cs ≡ 0)

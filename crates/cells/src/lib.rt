@@ -5,7 +5,8 @@
 // docs/CELLS.md tells, and the contracts below are the theorems about them.
 #![tactic(auto)]
 
-ghost use Rattle.cells.specs.Laws.{Starting, Unused, Walking, Climbing, Indexing, Counting, Using, Short};
+ghost use Rattle.cells.specs.Laws.{Starting, Unused, Walking, Climbing, Indexing};
+ghost use Rattle.cells.specs.Laws.{Holding, Counting, Beginning, Using, Short};
 ghost use Rattle.cells.specs.Laws.{Searching, Relocating, Entering, Moving, Undoing, TakingBack, Taking};
 ghost use Rattle.cells.specs.Examples.{Examples};
 
@@ -25,15 +26,19 @@ impl Cell {
 
 // What an array says: a new one is sound and holds no path; cell 0 is never used; walking finds
 // exactly the paths held; climbing from a cell spells its path; the index leads each number to its
-// leaf; and the cells in use are, in an array of two cells or more, one more than the different
-// non-empty beginnings of the held paths.
+// leaf; climbing from the leaves spells exactly the held paths; the cells in use are, in an array of
+// two cells or more, one more than the different non-empty beginnings of the held paths; those
+// beginnings are what they are called; a cell is either in use or free; and fewer than two cells
+// hold nothing.
 pub fn reading_laws()
     ensures starting { Starting }
     ensures unused { Unused }
     ensures walking { Walking }
     ensures climbing { Climbing }
     ensures indexing { Indexing }
+    ensures holding { Holding }
     ensures counting { Counting }
+    ensures beginning { Beginning }
     ensures using { Using }
     ensures short { Short }
 {}

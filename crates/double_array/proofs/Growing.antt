@@ -5,15 +5,16 @@ use Rattle.std.proofs.lemmas.Bool.{cases_eq, cond-true, eq-eqb, and_parts, and_f
 use Rattle.cells.specs.declared.Cell.{Cell}
 use Rattle.cells.specs.Cells.{at, base_of, parent, child, child_codes, is_code, all_codes}
 use Rattle.cells.specs.Placing.{Spot, place, then_place, grow, freed_up, relocated, undo}
-use Rattle.cells.specs.Trees.{In, Reach, Tree, NotLeaf, Family}
+use Rattle.cells.specs.Trees.{In, Reach}
 use Rattle.cells.specs.Invariant.{Sound}
 use Rattle.cells.specs.Laws.{Open}
+use Rattle.cells.proofs.Trees.{Tree, NotLeaf, Family}
 use Rattle.cells.proofs.Paths.{edge_up, reach_some}
 use Rattle.cells.proofs.Counts.{within}
 use Rattle.cells.proofs.Renamings.{up_used}
 use Rattle.cells.proofs.Climbs.{codes_from}
 use Rattle.cells.proofs.Walks.{listing}
-use Rattle.cells.proofs.Families.{in_getD}
+use Rattle.cells.proofs.Members.{in_at}
 use Rattle.cells.proofs.Returns.{family_after}
 use Rattle.cells.proofs.Sounds.{Tidy, tidy_of, reach_of, inner_is, inner_base}
 use Rattle.cells.proofs.Grows.{Here, There, some_same, then_some, grow_well}
@@ -110,7 +111,7 @@ module _ (cs : List Cell) (is : List ℕ) (s : ℕ) (sound : Sound cs is) where
         let c : ℕ = get_or (child_codes ms s) k 0 in
         let fam = listing cs s some in
         let after : Family ms s (child_codes cs s) = family_after cs s (child_codes cs s) h.0 tidy.tree at_s.used h.1 (inner_base cs is tidy s at_s.used leafless) fam (λ b i. h.2 b (inr i)) in
-        let i : In (child_codes cs s) c = after.whole c (base_of ms s + c) ((listing ms s some).sound c (in_getD (child_codes ms s) k lt)) in
+        let i : In (child_codes cs s) c = after.whole c (base_of ms s + c) ((listing ms s some).sound c (in_at (child_codes ms s) k 0 lt)) in
         within cs (base_of cs s + c) (omega (arith, some, edge_up cs s c (base_of cs s + c) (fam.sound c i)))
 
     grown_room : (k : ℕ) → k < length (child_codes (freed_up (1 + length more) r.cells r.spot) s) → base_of cs s + get_or (child_codes (freed_up (1 + length more) r.cells r.spot) s) k 0 < length cs

@@ -3,8 +3,9 @@ use Rattle.std.proofs.Common.{◌≡◌, ℕ, suc, ◌+◌, ◌-◌, ◌<◌, Li
 use Rattle.std.proofs.lemmas.Bool.{cases_eq, and_from, and_parts, ltb-true, lt-ltb}
 use Rattle.cells.specs.declared.Cell.{Cell}
 use Rattle.cells.specs.Cells.{base_of, parent}
-use Rattle.cells.specs.Trees.{Edge, Reach, Tree}
+use Rattle.cells.specs.Trees.{Edge, Reach}
 use Rattle.cells.specs.Invariant.{Sound}
+use Rattle.cells.proofs.Trees.{Tree}
 use Rattle.cells.proofs.Paths.{edge_up, reach_some, reach_used}
 use Rattle.cells.proofs.Counts.{within}
 use Rattle.cells.proofs.Climbs.{number_positive}

@@ -1,11 +1,11 @@
 -- What the functions on cells leave.
-use Rattle.std.specs.Prelude.{◌≡◌, ℕ, ◌+◌, ◌<◌, cond, List, length, ℤ, Some, None, Option, ◌≢◌}
+use Rattle.std.specs.Prelude.{◌≡◌, ℕ, ◌+◌, ◌<◌, cond, List, length, ℤ, Some, None, Option, ◌≢◌, nat_lt}
 use Rattle.cells.specs.declared.Cell.{Cell}
 use Rattle.cells.specs.Cells.{base_of, parent}
 use Rattle.cells.specs.Placing.{place}
 use Rattle.cells.specs.Walking.{number_at}
 use Rattle.cells.specs.Pruning.{take_out}
-use Rattle.cells.specs.Counting.{same_path, beginnings}
+use Rattle.cells.specs.Counting.{held_paths, same_path, beginnings}
 use Rattle.cells.specs.Laws.{Holds}
 
 -- the placing rule finds the cell t and leaves the cells xs and the index js, or finds no place and nothing changes
@@ -36,6 +36,11 @@ Taken cs is p (Some u) xs js = (number_at cs p ≡ Some u) × (take_out cs is p 
 abbrev pub Removed : List Cell → List ℕ → List Cell → Type 0
 Removed cs p xs = (q : List ℕ) → number_at xs q ≡ cond (same_path q p) None (number_at cs q)
 
--- n is one more than the different non-empty beginnings of the held paths, in an array of two cells or more
-abbrev pub Counted : List Cell → ℕ → Type 0
-Counted cs n = (ks : List (List ℕ)) → 1 < length cs → Holds cs ks → n ≡ 1 + length (beginnings ks)
+-- n is one more than the different non-empty beginnings of the held paths, and 0 in an array of fewer than two cells
+pub record Counted (cs : List Cell) (n : ℕ) : Type 0 where
+  -- the paths that climbing from the leaves spells are exactly the held ones
+  pub held : Holds cs (held_paths cs)
+  -- and n is counted by their beginnings
+  pub count : n ≡ cond (nat_lt 1 (length cs)) (1 + length (beginnings (held_paths cs))) 0
+  -- as by those of any list of exactly the held paths
+  pub any : (ks : List (List ℕ)) → 1 < length cs → Holds cs ks → n ≡ 1 + length (beginnings ks)

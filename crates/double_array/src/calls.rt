@@ -16,16 +16,17 @@ use refusal::{NumberFault, PathFault};
 
 impl DoubleArray {
     // The most cells that an array has.
-    pub const MAX_CELLS: usize = Nodes::MAX_CELLS;
+    pub const MAX_CELLS: usize = 1_048_576;
 
     // An array without a path. Of more than 1,048,576 cells the rest is given up.
-    pub fn new(cells: Vec<Cell>, index: Vec<u32>) -> DoubleArray
+    pub fn new(mut cells: Vec<Cell>, index: Vec<u32>) -> DoubleArray
         ensures cells_len { length (cells_of result) ≡ min (vec_len cells) 1048576 }
         ensures cells { (j : ℕ) → j < length (cells_of result) → at (cells_of result) j ≡ cleared j }
         ensures index_len { length (index_of result) ≡ vec_len index }
         ensures index { (n : ℕ) → slice_index (index_of result) n ≡ 0 }
         ensures none { (p : List ℕ) → number_at (cells_of result) p ≡ None }
     {
+        cells.truncate(Self::MAX_CELLS);
         DoubleArray {
             nodes: Nodes::new(cells, index),
         }
@@ -68,8 +69,8 @@ impl DoubleArray {
         self.nodes.path_of(number, out)
     }
 
-    // How many cells are in use: one more than the different non-empty beginnings of the held paths, in
-    // an array of two cells or more.
+    // How many cells are in use: one more than the different non-empty beginnings of the held paths, and
+    // none in an array of fewer than two cells.
     pub fn in_use(&self) -> usize
         ensures cells { result ≡ in_use (cells_of self.now) }
         ensures paths { Counted (cells_of self.now) result }

@@ -15,4 +15,4 @@ mod placing;
 mod pruning;
 
 pub use array::DoubleArray;
-pub use paths::leaf_number;
+pub use paths::{label_code, label_of, leaf_number};

@@ -1,5 +1,5 @@
 // The nodes of a tree in cells, and the index that leads each number to its leaf.
-ghost use Rattle.std.specs.Prelude.{◌≡◌, ℕ, ◌<◌, ◌≤◌, min, length, vec_len, slice_index};
+ghost use Rattle.std.specs.Prelude.{◌≡◌, ℕ, ◌<◌, ◌≤◌, length, vec_len, slice_index};
 ghost use Rattle.cells.specs.Cells.{at};
 ghost use Rattle.cells.specs.Laws.{cleared};
 
@@ -16,17 +16,14 @@ pub struct Nodes {
 }
 
 impl Nodes {
-    // The most cells that there are.
-    pub const MAX_CELLS: usize = 1_048_576;
-
-    // A root alone, and no number with a leaf. Of more than 1,048,576 cells the rest is given up.
+    // A root alone, and no number with a leaf.
     pub(super) fn new(mut cells: Vec<Cell>, mut index: Vec<u32>) -> Nodes
-        ensures cells_len { length result.cells.items ≡ min (vec_len cells) 1048576 }
+        requires { vec_len cells ≤ 1048576 }
+        ensures cells_len { length result.cells.items ≡ vec_len cells }
         ensures cells { (j : ℕ) → j < length result.cells.items → at result.cells.items j ≡ cleared j }
         ensures index_len { length result.index.items ≡ vec_len index }
         ensures index { (n : ℕ) → slice_index result.index.items n ≡ 0 }
     {
-        cells.truncate(Self::MAX_CELLS);
         cells.fill(Cell::FREE);
         if let Some(root) = cells.get_mut(1) {
             *root = Cell::ROOT;

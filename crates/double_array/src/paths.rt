@@ -1,6 +1,6 @@
 // Reading: the number at the end of a path, the path that leads to a cell, and how many cells are in use.
 ghost use Rattle.std.specs.Prelude.{◌≡◌, ◌-◌, ◌<◌, length, IfSome, if◌then◌else◌, Some, None, nat_lt, slice_index};
-ghost use Rattle.cells.specs.Cells.{parent, number, is_code, all_codes};
+ghost use Rattle.cells.specs.Cells.{parent, number, is_code, all_codes, label_code, label_of};
 ghost use Rattle.cells.specs.Walking.{cell_at, number_at, path_to};
 ghost use Rattle.cells.specs.Counting.{in_use};
 ghost use Rattle.double_array.specs.Outcomes.{Upward};
@@ -28,6 +28,20 @@ pub fn leaf_number(base: i32) -> Option<u32>
     ensures { result ≡ number base }
 {
     (base < 0).then(|| base.unsigned_abs())
+}
+
+// The code of a label: 2 more.
+pub fn label_code(label: u8) -> u16
+    ensures { result ≡ label_code label }
+{
+    label as u16 + 2
+}
+
+// The label of a code: none where it is the code of no label.
+pub fn label_of(code: u16) -> Option<u8>
+    ensures { result ≡ label_of code }
+{
+    u8::try_from(code.checked_sub(2)?).ok()
 }
 
 impl Nodes {

@@ -2,8 +2,8 @@
 use Rattle.std.proofs.Common.{◌≡◌, ℕ, ◌+◌, Bool, true, false, cond, ◌&&◌, ◌||◌, eqb, List, [], ◌∷◌, ◌++◌, map, length, refl, ap, ◌∙◌, arith}
 use Rattle.std.proofs.lemmas.List.{length-map}
 use Rattle.std.proofs.lemmas.Bool.{eqb-true, eq-eqb}
+use Rattle.cells.specs.Cells.{path_of_labels}
 use Rattle.cells.specs.Counting.{same_path, has, add, add_beginnings, beginnings}
-use Rattle.link_table.specs.Codes.{path_of_labels}
 use Rattle.history.proofs.Options.{same_test}
 
 -- codes are the same if labels are

@@ -17,7 +17,7 @@ use Rattle.link_table.proofs.Tables.{lawful}
 use Rattle.history.specs.Kits.{Kit, labels_of, number_in, triple_in}
 use Rattle.history.specs.Refusals.{first, word_refusals}
 use Rattle.history.specs.Runs.{Entry, entry_of, same_word, same_triple, rewritten}
-use Rattle.subtrie.proofs.Members.{in_map, map_in}
+use Rattle.cells.proofs.Members.{in_map, map_in}
 use Rattle.history.proofs.Members.{same_from, as_long, kept_map, nth_set, nth_set_other}
 use Rattle.history.proofs.Options.{same_test, some_from}
 

@@ -4,7 +4,7 @@ use Rattle.std.specs.List.{slice_get, range_with_len}
 use Rattle.std.proofs.lemmas.Bool.{cases_Bool, cond-true, cond-false, both_ways}
 use Rattle.cells.specs.Trees.{In, Apart}
 use Rattle.cells.proofs.Pigeons.{pigeons}
-use Rattle.subtrie.proofs.Members.{in_map}
+use Rattle.cells.proofs.Members.{in_map}
 
 module _ {X Y : Type 0} (f : X → Y) where
   -- members whose values are apart are equal if their values are

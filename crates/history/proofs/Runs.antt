@@ -4,6 +4,7 @@ use Rattle.std.specs.List.{slice_get}
 use Rattle.std.proofs.lemmas.Bool.{eqb-true, eq-eqb, cond-false}
 use Rattle.refusal.specs.declared.Refusal.{Refusal}
 use Rattle.refusal.specs.declared.Refusal.TheVariants.{UnknownLink}
+use Rattle.cells.specs.Cells.{path_of_labels}
 use Rattle.cells.specs.Counting.{in_use, beginnings}
 use Rattle.cells.specs.Laws.{Holds}
 use Rattle.cells.specs.Trees.{In}
@@ -13,7 +14,7 @@ use Rattle.cells.proofs.Tallies.{counting}
 use Rattle.double_array.specs.Spellings.{is_known, path_of}
 use Rattle.double_array.specs.Views.{cells_of, index_of}
 use Rattle.double_array.proofs.Fields.{sound_from}
-use Rattle.link_table.specs.Codes.{path_of_labels, path_of_triple, triple_of}
+use Rattle.link_table.specs.Codes.{path_of_triple, triple_of}
 use Rattle.link_table.specs.Tables.{found, coded, limit, all_held}
 use Rattle.link_table.specs.declared.table.LinkTable.{LinkTable}
 use Rattle.link_table.specs.declared.triple.Triple.{Triple}
@@ -23,7 +24,7 @@ use Rattle.history.specs.Refusals.{first, word_refusals, add_refusals, tie_refus
 use Rattle.history.specs.Calls.{LinkMade, held_in, place_in, lacks, refusal_of_tie, refusal_of_add, refusal_of_delete, refusal_of_change, refusal_of_list, answered, link_by, read_by, read_of, rows_in}
 use Rattle.history.specs.Runs.{History, Entry, same_triple, Reached}
 use Rattle.history.specs.Laws.{Unless, has_triple, has_link, entries_of, code_in, Answers, Next, Law}
-use Rattle.subtrie.proofs.Members.{in_map, map_in}
+use Rattle.cells.proofs.Members.{in_map, map_in}
 use Rattle.history.proofs.Members.{open_from, some_passes, passes_from, from_passes}
 use Rattle.history.proofs.Options.{same_test, unless_answered, unless_decided}
 use Rattle.history.proofs.Beginnings.{as_many_beginnings}

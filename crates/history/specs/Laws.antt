@@ -2,11 +2,12 @@
 use Rattle.std.specs.Prelude.{◌≡◌, ℕ, zero, suc, ◌+◌, ◌≤◌, Bool, true, false, cond, ◌&&◌, List, [], ◌∷◌, map, length, is_ok, Some, None, Ok, Err, filter, Option, Result, ◌==◌, ◌≢◌}
 use Rattle.refusal.specs.declared.Refusal.{Refusal}
 use Rattle.lexicon.specs.Rolls.{Lawful}
+use Rattle.cells.specs.Cells.{path_of_labels}
 use Rattle.cells.specs.Counting.{beginnings}
 use Rattle.cells.specs.Trees.{In, Apart}
 use Rattle.cells.specs.Walking.{number_at}
 use Rattle.double_array.specs.Views.{cells_of}
-use Rattle.link_table.specs.Codes.{code_of, path_of_labels}
+use Rattle.link_table.specs.Codes.{code_of}
 use Rattle.link_table.specs.Tables.{limit}
 use Rattle.link_table.specs.declared.table.LinkTable.{LinkTable}
 use Rattle.listing.specs.declared.row.LinkRow.{LinkRow}

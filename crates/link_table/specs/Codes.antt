@@ -1,17 +1,13 @@
 -- Triples as paths: the code of a triple, five labels.
 use Rattle.std.specs.Prelude.{◌≡◌, ℕ, ◌+◌, ◌-◌, ◌*◌, ◌/◌, ◌%◌, Bool, true, ◌&&◌, List, [], ◌∷◌, length, is_some, ◌==◌, nat_le, slice_index}
 use Rattle.cells.specs.declared.Cell.{Cell}
+use Rattle.cells.specs.Cells.{path_of_labels}
 use Rattle.cells.specs.Walking.{number_at}
 use Rattle.link_table.specs.declared.triple.Triple.{Triple}
 
 -- the code of a triple: upper and lower byte of x, the relation, upper and lower byte of y
 abbrev pub code_of : Triple → List ℕ
 code_of t = (t.x / 256) ∷ (t.x % 256) ∷ t.relation ∷ (t.y / 256) ∷ (t.y % 256) ∷ []
-
--- the path of labels: b + 2 for each label b
-abbrev pub path_of_labels : List ℕ → List ℕ
-path_of_labels [] = []
-path_of_labels (b ∷ more) = (b + 2) ∷ path_of_labels more
 
 -- the path of a triple: that of its code, with no end sign
 abbrev pub path_of_triple : Triple → List ℕ

@@ -31,7 +31,7 @@ impl LinkTable {
         let Ok(_) = self.array.path_of(number, &mut path) else {
             return None;
         };
-        Some(read_code(&path))
+        read_code(&path)
     }
 
     // How many triples are present.

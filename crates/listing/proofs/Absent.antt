@@ -2,6 +2,7 @@
 use Rattle.std.proofs.Common.{◌≡◌, ℕ, zero, suc, ◌+◌, ◌*◌, ◌/◌, ◌%◌, ◌<◌, false, ltb, List, [], ◌∷◌, ◌++◌, length, is_some, Some, None, Option, sym, refl, ap, ◌∙◌, subst, ⊎_elim, arith}
 use Rattle.std.proofs.lemmas.Bool.{and_cases, ltb-false}
 use Rattle.cells.specs.declared.Cell.{Cell}
+use Rattle.cells.specs.Cells.{path_of_labels}
 use Rattle.cells.specs.Trees.{In}
 use Rattle.cells.specs.Walking.{cell_at, number_at}
 use Rattle.double_array.specs.Views.{cells_of, index_of}
@@ -54,14 +55,17 @@ module _ (t : LinkTable) where
         ∙ ap (λ l. l ++ []) (below_absent n none)
 
     -- the three codes of x and the relation
-    pub relation_absent : false ≡ leads_on (cells_of t.array) ((x / 256 + 2) ∷ (x % 256 + 2) ∷ (k + 2) ∷ []) → (n : ℕ) → rows_below t x k n ≡ []
-    relation_absent e n = below_absent n (λ b. no_number ((x / 256 + 2) ∷ (x % 256 + 2) ∷ (k + 2) ∷ []) ((b / 256 + 2) ∷ (b % 256 + 2) ∷ []) e)
+    pub relation_absent : (codes : List ℕ) → codes ≡ path_of_labels ((x / 256) ∷ (x % 256) ∷ k ∷ []) → false ≡ leads_on (cells_of t.array) codes → (n : ℕ) → rows_below t x k n ≡ []
+    relation_absent codes same e n =
+        below_absent n
+        (λ b. no_number (path_of_labels ((x / 256) ∷ (x % 256) ∷ k ∷ [])) (path_of_labels ((b / 256) ∷ (b % 256) ∷ [])) (e ∙ ap (leads_on (cells_of t.array)) same))
 
     -- and the upper byte of the second word's number
-    pub block_absent : (h : ℕ) → false ≡ leads_on (cells_of t.array) ((x / 256 + 2) ∷ (x % 256 + 2) ∷ (k + 2) ∷ (h + 2) ∷ []) → rows_from t x k (256 * h) 256 ≡ []
-    block_absent h e =
+    pub block_absent : (h : ℕ) (codes : List ℕ) → codes ≡ path_of_labels ((x / 256) ∷ (x % 256) ∷ k ∷ h ∷ []) → false ≡ leads_on (cells_of t.array) codes → rows_from t x k (256 * h) 256 ≡ []
+    block_absent h codes same e =
         from_absent (256 * h) 256
         (λ i low.
-        let same : (256 * h + i) / 256 ≡ h = omega arith in
-        ap (λ u. number_at (cells_of t.array) ((x / 256 + 2) ∷ (x % 256 + 2) ∷ (k + 2) ∷ (u + 2) ∷ ((256 * h + i) % 256 + 2) ∷ [])) same
-        ∙ no_number ((x / 256 + 2) ∷ (x % 256 + 2) ∷ (k + 2) ∷ (h + 2) ∷ []) (((256 * h + i) % 256 + 2) ∷ []) e)
+        let upper : (256 * h + i) / 256 ≡ h = omega arith in
+        let lower : List ℕ = path_of_labels (((256 * h + i) % 256) ∷ []) in
+        ap (λ u. number_at (cells_of t.array) (path_of_labels ((x / 256) ∷ (x % 256) ∷ k ∷ u ∷ ((256 * h + i) % 256) ∷ []))) upper
+        ∙ no_number (path_of_labels ((x / 256) ∷ (x % 256) ∷ k ∷ h ∷ [])) lower (e ∙ ap (leads_on (cells_of t.array)) same))

@@ -3,7 +3,7 @@ use Rattle.std.proofs.Common.{◌≡◌, ℕ, zero, suc, ◌<◌, ◌≤◌, Som
 use Rattle.std.proofs.lemmas.Bool.{cases_lt}
 use Rattle.cells.specs.Trees.{In}
 use Rattle.double_array.specs.Views.{cells_of}
-use Rattle.subtrie.proofs.Members.{in_append, in_front, in_rest}
+use Rattle.cells.proofs.Members.{in_append, in_front, in_rest}
 use Rattle.link_table.specs.Codes.{path_of_triple}
 use Rattle.link_table.specs.Tables.{found}
 use Rattle.link_table.specs.declared.triple.Triple.{Triple}

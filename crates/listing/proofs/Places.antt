@@ -1,9 +1,8 @@
 -- Setting one run of rows after another.
 use Rattle.std.proofs.Common.{◌≡◌, ℕ, suc, ◌+◌, ◌≤◌, List, [], ◌∷◌, ◌++◌, length, take, drop, set, Some, sym, refl, ap, ◌∙◌, append_assoc, add-zero, arith, length-append}
 use lib.Seq.{sets, sets-eq}
-use Rattle.output.specs.Written.{written}
+use Rattle.output.specs.Written.{written, Filled}
 use Rattle.listing.specs.declared.row.LinkRow.{LinkRow}
-use Rattle.listing.specs.Rows.{Filled}
 use Rattle.listing.specs.Parts.{Placed}
 
 sets_more : (rows more out : List LinkRow) (at : ℕ) → sets (sets out at rows) (at + length rows) more ≡ sets out at (rows ++ more)

@@ -1,6 +1,5 @@
 -- The rows of a listing, what a call leaves of them, and what they are in terms of the table.
-use Rattle.std.specs.Prelude.{◌≡◌, ℕ, zero, suc, ◌<◌, ◌≤◌, ◌⊎◌, List, [], ◌∷◌, ◌++◌, length, Some, None, Option}
-use Rattle.output.specs.Written.{written}
+use Rattle.std.specs.Prelude.{◌≡◌, ℕ, zero, suc, ◌<◌, ◌≤◌, ◌⊎◌, List, [], ◌∷◌, ◌++◌, Some, None, Option}
 use Rattle.cells.specs.Trees.{In}
 use Rattle.link_table.specs.Tables.{found}
 use Rattle.link_table.specs.declared.table.LinkTable.{LinkTable}
@@ -34,11 +33,6 @@ rows_of t x (suc k) = rows_by t x (suc k)
 abbrev pub Asks : ℕ → ℕ → Type 0
 Asks zero k = 1 ≤ k
 Asks (suc q) k = k ≡ suc q
-
--- the rows fill the output from its start and how many they are is answered, or the output is too short and nothing is written
-abbrev pub Filled : List LinkRow → List LinkRow → Option ℕ → List LinkRow → Type 0
-Filled rows out None after = (length out < length rows) × (after ≡ out)
-Filled rows out (Some n) after = (length rows ≤ length out) × (n ≡ length rows) × (after ≡ written out 0 rows)
 
 -- a row is listed exactly if the table has its triple with its link number and q asks for its relation
 pub record Members (t : LinkTable) (x q : ℕ) (rows : List LinkRow) : Type 0 where

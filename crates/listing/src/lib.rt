@@ -9,7 +9,8 @@ mod beginning;
 mod row;
 mod writing;
 
-ghost use Rattle.listing.specs.Rows.{rows_of, Filled, Members, Rising};
+ghost use Rattle.output.specs.Written.{Filled};
+ghost use Rattle.listing.specs.Rows.{rows_of, Members, Rising};
 
 use link_table::LinkTable;
 pub use row::LinkRow;

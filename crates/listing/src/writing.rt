@@ -4,11 +4,13 @@
 // place in it stay two parameters: of an output that a struct holds, no contract could say what it holds
 // when it is given back (tried).
 ghost use Rattle.std.specs.Prelude.{◌+◌, ◌*◌, ◌^◌, ◌<◌, ◌≤◌, [], ◌∷◌, Some};
+ghost use Rattle.output.specs.Written.{Filled};
 ghost use Rattle.listing.specs.Parts.{rows_from, Placed};
-ghost use Rattle.listing.specs.Rows.{rows_by, rows_to, rows_of, Filled};
+ghost use Rattle.listing.specs.Rows.{rows_by, rows_to, rows_of};
 
 use super::beginning::{beginning, leads};
 use super::row::LinkRow;
+use double_array::label_code;
 use link_table::{LinkTable, Triple};
 
 // Writes a row at the place `at`, if the output has it, and answers the next place.
@@ -32,15 +34,14 @@ pub(super) struct WordLinks<'a> {
 impl<'a> WordLinks<'a> {
     // Writes the rows by the relation whose second word's number has this upper byte from `at` on,
     // and answers where they end.
-    fn list_block(&self, relation: u8, upper: u16, out: &mut [LinkRow], at: usize) -> usize
-        requires byte { upper < 256 }
-        requires room { at + 256 < 2 ^ 63 }
+    fn list_block(&self, relation: u8, upper: u8, out: &mut [LinkRow], at: usize) -> usize
+        requires { at + 256 < 2 ^ 63 }
         ensures { Placed out.old at (rows_from self.now.table.now self.now.x relation (256 * upper) 256) result out.new }
     {
         let x = self.x;
         let mut next = at;
         for lower in 0..256 {
-            let y = 256 * upper + lower;
+            let y = 256 * upper as u16 + lower;
             if let Some(link) = self.table.number_of(Triple { x, relation, y }) {
                 next = place_row(out, next, LinkRow { relation, y, link });
             }
@@ -59,8 +60,8 @@ impl<'a> WordLinks<'a> {
             return at;
         }
         let mut next = at;
-        for upper in 0..256 {
-            if leads(self.table, &[first, second, third, upper + 2]) {
+        for upper in 0..=255u8 {
+            if leads(self.table, &[first, second, third, label_code(upper)]) {
                 next = self.list_block(relation, upper, out, next);
             }
         }
@@ -104,9 +105,8 @@ pub fn list_upper(
     ensures output { Filled (rows_from table.now x relation (256 * upper) 256) out.old (Some result) out.new }
     ensures few { result ≤ 256 }
 {
-    let upper = upper as u16;
     let [first, second, third] = beginning(x, relation);
-    if leads(table, &[first, second, third, upper + 2]) {
+    if leads(table, &[first, second, third, label_code(upper)]) {
         WordLinks { table, x }.list_block(relation, upper, out, 0)
     } else {
         0

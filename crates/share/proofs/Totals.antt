@@ -2,11 +2,11 @@
 use Rattle.std.proofs.Common.{◌≡◌, ℕ, ◌+◌, ◌*◌, List, length, take, drop, Some, sym, ap, ◌∙◌}
 use Rattle.std.proofs.lemmas.List.{take_at}
 use Rattle.std.proofs.lemmas.List.Sums.{sum_by-append}
-use Rattle.output.specs.Written.{written}
+use Rattle.output.specs.Written.{written, Filled}
 use Rattle.record.specs.declared.Tally.{Tally}
 use Rattle.link_table.specs.declared.table.LinkTable.{LinkTable}
 use Rattle.listing.specs.Parts.{rows_from}
-use Rattle.listing.specs.Rows.{rows_below, Filled}
+use Rattle.listing.specs.Rows.{rows_below}
 use Rattle.listing.specs.declared.row.LinkRow.{LinkRow}
 use Rattle.listing.proofs.Parts.{below_none, below_next}
 use Rattle.share.specs.Shares.{count_at, sum_at}

@@ -1,13 +1,13 @@
 -- Where nothing is below.
 use Rattle.std.proofs.Common.{◌≡◌, ℕ, zero, suc, ◌-◌, ◌<◌, cond, ltb, List, [], ◌∷◌, ◌++◌, length, Some, None, Option, sym, refl, ap, ◌∙◌, ⊎_elim, arith}
 use Rattle.std.proofs.lemmas.Bool.{cases_eq, cond_both, ltb-false}
-use Rattle.output.specs.Written.{written}
+use Rattle.output.specs.Written.{written, Filled}
 use Rattle.output.proofs.Writes.{written_none}
 use Rattle.cells.specs.declared.Cell.{Cell}
 use Rattle.cells.specs.Cells.{at, number, child, all_codes}
 use Rattle.cells.specs.Walking.{onward, walk, cell_at}
 use Rattle.cells.proofs.Sounds.{short_root, short_child}
-use Rattle.subtrie.specs.Below.{at_found, edge_numbers, numbers_below, numbers_from, Filled}
+use Rattle.subtrie.specs.Below.{at_found, edge_numbers, numbers_below, numbers_from}
 use Rattle.subtrie.proofs.Steps.{below_none, below_edges}
 
 -- nothing is written where there are no numbers

@@ -1,7 +1,6 @@
 pub mod Steps
 pub mod Writes
 pub mod Rooms
-pub mod Members
 pub mod Orders
 pub mod Paths
 pub mod Listings

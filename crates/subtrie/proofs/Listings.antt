@@ -16,7 +16,7 @@ use Rattle.double_array.proofs.Spells.{named_of}
 use Rattle.subtrie.specs.Below.{at_found, numbers_below, numbers_from}
 use Rattle.subtrie.specs.Order.{Before}
 use Rattle.subtrie.specs.Laws.{Listed, Members, Ordered}
-use Rattle.subtrie.proofs.Members.{in_map, map_in, map_through}
+use Rattle.cells.proofs.Members.{in_map, map_in, map_through}
 use Rattle.subtrie.proofs.Orders.{before_front, before_self, rising_map, rising_at}
 use Rattle.subtrie.proofs.Paths.{number_on, below}
 

@@ -2,7 +2,7 @@
 use Rattle.std.proofs.Common.{ℕ, zero, suc, ◌<◌, List, [], ◌∷◌, ◌++◌, map, length, get_or, sym, refl, subst, inl, inr, ⊎_elim, arith}
 use Rattle.cells.specs.Trees.{In}
 use Rattle.subtrie.specs.Order.{Before, Rising}
-use Rattle.subtrie.proofs.Members.{in_append, in_at, map_in}
+use Rattle.cells.proofs.Members.{in_append, in_at, map_in}
 
 -- a common beginning does not matter
 pub before_front : (p q r : List ℕ) → Before q r → Before (p ++ q) (p ++ r)

@@ -11,7 +11,7 @@ use Rattle.cells.proofs.Basics.{no_some}
 use Rattle.cells.proofs.Walks.{Codes}
 use Rattle.subtrie.specs.Below.{at_found, leaf_or, edge_numbers, numbers_below}
 use Rattle.subtrie.specs.Order.{Before, Rising}
-use Rattle.subtrie.proofs.Members.{in_append, in_front, in_rest, in_map, map_in, map_through}
+use Rattle.cells.proofs.Members.{in_append, in_front, in_rest, in_map, map_in, map_through}
 use Rattle.subtrie.proofs.Orders.{rising_append, rising_map}
 
 -- the number of the leaf that the codes lead to from s

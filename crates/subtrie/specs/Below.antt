@@ -1,6 +1,5 @@
 -- The numbers below a cell.
-use Rattle.std.specs.Prelude.{◌≡◌, ℕ, zero, suc, ◌-◌, ◌<◌, ◌≤◌, cond, List, [], ◌∷◌, ◌++◌, length, Some, None, Option, nat_le}
-use Rattle.output.specs.Written.{written}
+use Rattle.std.specs.Prelude.{ℕ, zero, suc, ◌-◌, cond, List, [], ◌∷◌, ◌++◌, length, Some, None, Option, nat_le}
 use Rattle.cells.specs.declared.Cell.{Cell}
 use Rattle.cells.specs.Cells.{at, number, child}
 use Rattle.cells.specs.Walking.{cell_at}
@@ -32,8 +31,3 @@ numbers_from cs p = at_found (numbers_below (length cs) cs) (cell_at cs p)
 -- how many of n places are left after ns, and none where they are too few
 abbrev pub room_after : ℕ → List ℕ → Option ℕ
 room_after n ns = cond (nat_le (length ns) n) (Some (n - length ns)) None
-
--- ns fill the output from its start and how many they are is answered, or the output is too short and nothing is written
-abbrev pub Filled : List ℕ → List ℕ → Option ℕ → List ℕ → Type 0
-Filled ns out None after = (length out < length ns) × (after ≡ out)
-Filled ns out (Some n) after = (length ns ≤ length out) × (n ≡ length ns) × (after ≡ written out 0 ns)

@@ -9,8 +9,9 @@ mod writing;
 
 ghost use Rattle.std.specs.Prelude.{◌≡◌};
 ghost use Rattle.cells.specs.Cells.{at, number};
+ghost use Rattle.output.specs.Written.{Filled};
 ghost use Rattle.double_array.specs.Views.{cells_of, index_of};
-ghost use Rattle.subtrie.specs.Below.{numbers_from, Filled};
+ghost use Rattle.subtrie.specs.Below.{numbers_from};
 ghost use Rattle.subtrie.specs.Laws.{Listed, Members, Ordered};
 
 use double_array::{DoubleArray, leaf_number};

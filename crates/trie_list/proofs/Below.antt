@@ -1,51 +1,39 @@
 -- The numbers below a cell are those of the words that begin so.
-use Rattle.std.proofs.Common.{◌≡◌, ℕ, suc, ◌+◌, ◌<◌, ◌≤◌, true, false, cond, List, [], ◌∷◌, ◌++◌, length, map, get_or, IfOk, Some, None, Ok, Err, Option, Result, sym, refl, ap, ◌∙◌, inl, inr, arith}
+use Rattle.std.proofs.Common.{◌≡◌, ℕ, ◌+◌, ◌<◌, ◌≤◌, true, false, cond, List, [], ◌∷◌, ◌++◌, length, get_or, IfOk, Some, None, Ok, Err, Option, Result, sym, refl, ap, ◌∙◌, inl, inr, append_assoc, arith}
 use Rattle.std.specs.Option.{ok_or}
+use Rattle.std.proofs.lemmas.List.{map-append}
 use Rattle.std.proofs.lemmas.Bool.{cond-true, cond-false, le-leb, lt-leb}
 use Rattle.refusal.specs.declared.ListFault.{ListFault}
 use Rattle.refusal.specs.declared.ListFault.TheVariants.{OutputTooShort}
 use Rattle.lexicon.specs.Rolls.{numbered, word_of}
 use Rattle.lexicon.proofs.Numbers.{numbered_bounds, number_word}
+use Rattle.cells.specs.Cells.{label_code, path_of_labels}
 use Rattle.cells.specs.Trees.{In}
 use Rattle.cells.specs.Walking.{number_at}
-use Rattle.cells.proofs.Families.{in_getD}
+use Rattle.cells.proofs.Members.{in_at}
 use Rattle.double_array.specs.Views.{cells_of, index_of}
-use Rattle.output.specs.Written.{fits, written}
-use Rattle.subtrie.specs.Below.{Filled}
+use Rattle.output.specs.Written.{fits, written, Filled}
 use Rattle.subtrie.specs.Order.{Before}
 use Rattle.subtrie.specs.Laws.{Members, Ordered}
 use Rattle.trie_list.specs.Paths.{path_of}
-use Rattle.trie_list.specs.Below.{codes_of, below_of, WordsBelow}
+use Rattle.trie_list.specs.Below.{below_of, WordsBelow}
 use Rattle.trie_list.specs.Trie.{roll_of}
 use Rattle.trie_list.specs.declared.list.TrieList.{TrieList}
 use Rattle.trie_list.proofs.Lists.{length_roll, roll_lawful, walked}
 
 -- the path of a word that begins so
-pub path_begins : (b q : List ℕ) → path_of (b ++ q) ≡ codes_of b ++ path_of q
-path_begins [] q = refl
-path_begins (c ∷ b) q = ap (λ (z : List ℕ). (c + 2) ∷ z) (path_begins b q)
-
-pub length_codes : (b : List ℕ) → length (codes_of b) ≡ length b
-length_codes [] = refl
-length_codes (c ∷ b) = ap suc (length_codes b)
-
-pub codes_map : (b : List ℕ) → codes_of b ≡ map (λ c. c + 2) b
-codes_map [] = refl
-codes_map (c ∷ b) = ap (λ (z : List ℕ). (c + 2) ∷ z) (codes_map b)
-
-pub path_ends : (b : List ℕ) → path_of b ≡ codes_of b ++ 1 ∷ []
-path_ends [] = refl
-path_ends (c ∷ b) = ap (λ (z : List ℕ). (c + 2) ∷ z) (path_ends b)
+path_begins : (b q : List ℕ) → path_of (b ++ q) ≡ path_of_labels b ++ path_of q
+path_begins b q = ap (λ (z : List ℕ). z ++ 1 ∷ []) (map-append label_code b q) ∙ append_assoc (path_of_labels b) (path_of_labels q) (1 ∷ [])
 
 heads : (a b : ℕ) (p q : List ℕ) → a ∷ p ≡ b ∷ q → (a ≡ b) × (p ≡ q)
 heads a b p q e = (cc, cc)
 
 -- a word whose path begins so begins so
-word_begins : (b r w : List ℕ) → codes_of b ++ r ≡ path_of w → (q : List ℕ) × (w ≡ b ++ q)
+word_begins : (b r w : List ℕ) → path_of_labels b ++ r ≡ path_of w → (q : List ℕ) × (w ≡ b ++ q)
 word_begins [] r w e = (w, refl)
-word_begins (c ∷ b) r [] e = absurd (omega (arith, (heads (c + 2) 1 (codes_of b ++ r) [] e).0))
+word_begins (c ∷ b) r [] e = absurd (omega (arith, (heads (c + 2) 1 (path_of_labels b ++ r) [] e).0))
 word_begins (c ∷ b) r (d ∷ w) e =
-    let parts = heads (c + 2) (d + 2) (codes_of b ++ r) (path_of w) e in
+    let parts = heads (c + 2) (d + 2) (path_of_labels b ++ r) (path_of w) e in
     let rest = word_begins b r w parts.1 in
     let same : d ≡ c = omega (arith, parts.0) in
     (rest.0, ap (λ (k : ℕ). k ∷ w) same ∙ ap (λ (z : List ℕ). c ∷ z) rest.1)
@@ -61,11 +49,11 @@ before_words (a ∷ v) (b ∷ w) (inl h) = inl (omega arith)
 before_words (a ∷ v) (b ∷ w) (inr h) = inr (let z : a ≡ b = omega (arith, h.0) in z, before_words v w h.1)
 
 -- the numbers that are written, in words of the roll
-module _ (s : TrieList) (b : List ℕ) (m : Members (cells_of s.array) (codes_of b) (below_of s b)) (o : Ordered (cells_of s.array) (index_of s.array) (below_of s b)) where
+module _ (s : TrieList) (b : List ℕ) (m : Members (cells_of s.array) (path_of_labels b) (below_of s b)) (o : Ordered (cells_of s.array) (index_of s.array) (below_of s b)) where
   begins : (u : ℕ) → In (below_of s b) u → (numbered (roll_of s) u ≡ true) × ((q : List ℕ) × (word_of (roll_of s) u ≡ b ++ q))
   begins u i =
       let held = m.held u i in
-      let found = (walked s).only (codes_of b ++ held.0) u held.1 in
+      let found = (walked s).only (path_of_labels b ++ held.0) u held.1 in
       (found.0, word_begins b held.0 (word_of (roll_of s) u) found.1)
 
   -- the path of a number's word has the number
@@ -78,7 +66,7 @@ module _ (s : TrieList) (b : List ℕ) (m : Members (cells_of s.array) (codes_of
   all u q some e = m.all (path_of q) u (ap (number_at (cells_of s.array)) (sym (path_begins b q) ∙ ap path_of (sym e)) ∙ word_number u some)
 
   some_at : (i : ℕ) → i < length (below_of s b) → numbered (roll_of s) (get_or (below_of s b) i 0) ≡ true
-  some_at i h = (begins (get_or (below_of s b) i 0) (in_getD (below_of s b) i h)).0
+  some_at i h = (begins (get_or (below_of s b) i 0) (in_at (below_of s b) i 0 h)).0
 
   low_at : (i : ℕ) → i < length (below_of s b) → get_or (below_of s b) i 0 ≤ length (index_of s.array)
   low_at i h = omega (arith, (numbered_bounds (roll_of s) (get_or (below_of s b) i 0) (some_at i h)).1, length_roll s, s.within)

@@ -1,23 +1,19 @@
 -- The words below a beginning.
-use Rattle.std.specs.Prelude.{◌≡◌, ℕ, ◌+◌, ◌<◌, true, cond, List, [], ◌∷◌, ◌++◌, length, Ok, Err, Result, ◌≢◌, nat_le, slice_index}
+use Rattle.std.specs.Prelude.{◌≡◌, ℕ, ◌<◌, true, cond, List, ◌++◌, length, Ok, Err, Result, ◌≢◌, nat_le, slice_index}
 use Rattle.refusal.specs.declared.ListFault.{ListFault}
 use Rattle.refusal.specs.declared.ListFault.TheVariants.{WordLength, OutputTooShort}
 use Rattle.output.specs.Written.{fits, written}
 use Rattle.lexicon.specs.Rolls.{numbered, word_of}
+use Rattle.cells.specs.Cells.{path_of_labels}
 use Rattle.cells.specs.Trees.{In}
 use Rattle.double_array.specs.Views.{cells_of}
 use Rattle.subtrie.specs.Below.{numbers_from}
 use Rattle.subtrie.specs.Order.{Before}
 use Rattle.trie_list.specs.declared.list.TrieList.{TrieList}
 
--- the codes of labels, without an end sign
-abbrev pub codes_of : List ℕ → List ℕ
-codes_of [] = []
-codes_of (b ∷ more) = (b + 2) ∷ codes_of more
-
--- the numbers below a beginning: those of the edges below its cell, in rising order of the codes
+-- the numbers below a beginning: those of the edges below the cell of its codes, in rising order of the codes
 abbrev pub below_of : TrieList → List ℕ → List ℕ
-below_of s beginning = numbers_from (cells_of s.array) (codes_of beginning)
+below_of s beginning = numbers_from (cells_of s.array) (path_of_labels beginning)
 
 -- what the call answers: how many there are; a beginning of more than 128 labels is refused, then a short output
 abbrev pub below_answer : TrieList → List ℕ → List ℕ → Result ℕ ListFault

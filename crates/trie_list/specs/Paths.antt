@@ -1,11 +1,11 @@
 -- Words as paths: the code of each label, and the end sign.
-use Rattle.std.specs.Prelude.{ℕ, ◌+◌, ◌-◌, Bool, false, ◌&&◌, List, [], ◌∷◌, ◌==◌, nat_le}
+use Rattle.std.specs.Prelude.{ℕ, ◌-◌, Bool, false, ◌&&◌, List, [], ◌∷◌, ◌++◌, ◌==◌, nat_le}
+use Rattle.cells.specs.Cells.{path_of_labels}
 use Rattle.lexicon.specs.Rolls.{label_sized}
 
--- the path of a word: b + 2 for each label b, and 1 for the end sign
+-- the path of a word: the codes of its labels, and 1 for the end sign
 abbrev pub path_of : List ℕ → List ℕ
-path_of [] = 1 ∷ []
-path_of (b ∷ more) = (b + 2) ∷ path_of more
+path_of word = path_of_labels word ++ 1 ∷ []
 
 -- the labels of a path, without its last code
 abbrev pub labels_of : List ℕ → List ℕ

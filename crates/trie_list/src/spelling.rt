@@ -1,19 +1,19 @@
 // The path of a word, and the labels of a path.
 ghost use Rattle.std.specs.Prelude.{◌≡◌, ◌≤◌, true, length};
-ghost use Rattle.cells.specs.Cells.{all_codes};
+ghost use Rattle.cells.specs.Cells.{all_codes, path_of_labels};
 ghost use Rattle.trie_list.specs.Paths.{path_of, labels_of, word_path};
-ghost use Rattle.trie_list.specs.Below.{codes_of};
 
 use arrayvec::ArrayVec;
+use double_array::{label_code, label_of};
 
-// The codes of labels: 2 more than each.
+// The codes of labels.
 pub(super) fn codes_of(labels: &[u8]) -> ArrayVec<u16, 129>
     requires { length labels.now ≤ 128 }
-    ensures { result.items ≡ codes_of labels.now }
+    ensures { result.items ≡ path_of_labels labels.now }
 {
     let mut codes = ArrayVec::new();
     for label in labels {
-        codes.push(*label as u16 + 2);
+        codes.push(label_code(*label));
     }
     codes
 }
@@ -28,15 +28,17 @@ pub(super) fn path_of(word: &[u8]) -> ArrayVec<u16, 129>
     path
 }
 
-// The labels of a word's path.
+// The labels of a word's path: its end sign is the code of none.
 pub(super) fn labels_of(path: &[u16]) -> ArrayVec<u8, 128>
     requires word { word_path path.now ≡ true }
     requires codes { all_codes path.now ≡ true }
     ensures { result.items ≡ labels_of path.now }
 {
     let mut labels = ArrayVec::new();
-    for code in &path[0..path.len() - 1] {
-        labels.push((*code - 2) as u8);
+    for code in path {
+        if let Some(label) = label_of(*code) {
+            labels.push(label);
+        }
     }
     labels
 }

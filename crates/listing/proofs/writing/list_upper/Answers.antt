@@ -1,6 +1,4 @@
-use Rattle.std.proofs.Common.{◌≡◌, ◌+◌, ◌*◌, ◌≤◌, false, [], ◌∷◌, length, get_or, refl, subst, arith}
-use Rattle.double_array.specs.Views.{cells_of}
-use Rattle.listing.specs.Parts.{leads_on}
+use Rattle.std.proofs.Common.{◌*◌, ◌≤◌, [], ◌∷◌, length, get_or, refl, arith}
 use Rattle.listing.specs.Parts.{rows_from}
 use Rattle.listing.proofs.Absent.{block_absent}
 use Rattle.listing.proofs.Parts.{from_few}
@@ -22,6 +20,8 @@ returns-else-leads c =
     let few : length rows ≤ 256 = from_few c.args.table.now c.args.x c.args.relation (256 * c.args.upper) 256 in
     record {
       output = placed_filled rows c.args.out.now _ _ (omega arith)
-          (placed_none c.args.out.now 0 rows _ _ (block_absent c.args.table.now c.args.x c.args.relation c.args.upper (subst (λ b. false ≡ leads_on (cells_of c.args.table.now.array) (get_or b 0 0 ∷ get_or b 1 0 ∷ get_or b 2 0 ∷ (c.args.upper + 2) ∷ [])) c.beginning.ensures c.if-leads.ensures)) refl refl);
+          (placed_none c.args.out.now 0 rows _ _
+          (block_absent c.args.table.now c.args.x c.args.relation c.args.upper _ (λ j. get_or (c.beginning.ensures j) 0 0 ∷ get_or (c.beginning.ensures j) 1 0 ∷ get_or (c.beginning.ensures j) 2 0 ∷ c.label_code.ensures j ∷ []) c.if-leads.ensures)
+          refl refl);
       few = omega arith;
     }

@@ -1,46 +1,42 @@
-use Rattle.std.proofs.Common.{◌≡◌, ◌+◌, ◌-◌, ◌<◌, true, List, ℕ, length, get_or, take, map, sym, ap, ◌∙◌, arith, length-take-le}
-use Rattle.std.proofs.lemmas.List.{length-map, take_all, get_or-take}
+use Rattle.std.proofs.Common.{◌≡◌, ◌+◌, ◌<◌, true, ◌++◌, List, ℕ, [], ◌∷◌, length, take, sym, ap, ◌∙◌, append-nil, arith}
+use Rattle.std.specs.List.{filter_map, cons_option}
+use Rattle.std.proofs.lemmas.List.{take_all}
 use Rattle.std.proofs.lemmas.Bool.{and_parts}
 use Rattle.lexicon.specs.Rolls.{label_sized}
-use Rattle.cells.proofs.Climbs.{code_high}
+use Rattle.cells.specs.Cells.{label_of}
 use Rattle.trie_list.specs.Paths.{ends_once, labels_of, word_path}
-use Rattle.trie_list.proofs.PathsLemmas.{labels_map, label_low, word_path_size}
+use Rattle.trie_list.proofs.PathsLemmas.{label_before, labels_kept, kept_more, taken_few, word_path_size}
 use Rattle.trie_list.proofs.spelling.labels_of.Goals as goal
+use Rattle.trie_list.proofs.spelling.labels_of.Goals.{in-Some, in_default}
 
--- how many codes a path has before its last
-before_last : (p : List ℕ) → word_path p ≡ true → length (take (length p - 1 - 0) p) + 1 ≡ length p
-before_last p word = omega (arith, length-take-le (length p - 1 - 0) p (omega arith), (word_path_size p word).0)
-
--- and the code at a place before the last
-read_before : (p : List ℕ) (i : ℕ) → i + 1 < length p → get_or (take (length p - 1 - 0) p) i 0 ≡ get_or p i 0
-read_before p i h = get_or-take (length p - 1 - 0) p i 0 (omega arith)
-
-pub overflow_sub-code : goal.overflow_sub-code
-overflow_sub-code c =
-    let p = c.args.path.now in
-    let i = c.loop-code.code-index in
-    let short : i + 1 < length p = omega (arith, before_last p c.requires.word, c.loop-code-test.true) in
-    omega (arith, read_before p i short, label_low p i (and_parts (ends_once p) (label_sized (labels_of p)) c.requires.word).0 short)
-
-pub overflow_cast-code : goal.overflow_cast-code
-overflow_cast-code c =
-    let p = c.args.path.now in
-    let i = c.loop-code.code-index in
-    let short : i + 1 < length p = omega (arith, before_last p c.requires.word, c.loop-code-test.true) in
-    omega (arith, read_before p i short, code_high p i c.requires.codes (omega arith))
+-- a word's path ends once
+ends : (p : List ℕ) → word_path p ≡ true → ends_once p ≡ true
+ends p word = (and_parts (ends_once p) (label_sized (labels_of p)) word).0
 
 pub push-requires : goal.push-requires
 push-requires c =
-    let l = c.loop-code in
     let p = c.args.path.now in
-    let codes = take (length p - 1 - 0) p in
-    let long : length l.labels.items ≡ l.code-index = ap length l.invariant ∙ length-map (take l.code-index codes) (λ a. a - 2) ∙ length-take-le l.code-index codes (omega arith) in
-    (omega arith, omega (arith, long, before_last p c.requires.word, (word_path_size p c.requires.word).1, c.loop-code-test.true))
+    let i = c.loop-code.code-index in
+    let before : i + 1 < length p = label_before p i c.in-Some.label (ends p c.requires.word) c.loop-code-test.true (sym c.label_of.ensures ∙ c.in-Some.is) in
+    let long = ap length c.loop-code.invariant in
+    (omega arith, omega (arith, long, taken_few p i (omega arith), (word_path_size p c.requires.word).1))
+
+pub loop-code-preserved : goal.loop-code-preserved
+loop-code-preserved c =
+    let p = c.args.path.now in
+    let i = c.loop-code.code-index in
+    let before = filter_map label_of (take i p) in
+    let more = kept_more p i c.loop-code-test.true in
+    elim c.match-label_of.branch [
+      | in-Some w ↦
+          ap (λ v. v.items) w.labels-is ∙ w.push.ensures.items ∙ ap (λ l. l ++ w.in-Some.label ∷ []) c.loop-code.invariant
+          ∙ sym (more ∙ ap (λ o. before ++ cons_option o []) (sym c.label_of.ensures ∙ w.in-Some.is))
+      | in_default w ↦
+          ap (λ v. v.items) w.labels-is ∙ c.loop-code.invariant
+          ∙ sym (more ∙ ap (λ o. before ++ cons_option o []) (sym c.label_of.ensures ∙ w.in_default.is) ∙ append-nil before)
+    ]
 
 pub returns : goal.returns
 returns c =
-    let l = c.loop-code in
     let p = c.args.path.now in
-    let codes = take (length p - 1 - 0) p in
-    l.invariant ∙ ap (map (λ a. a - 2)) (take_all l.code-index codes (omega arith))
-    ∙ sym (labels_map p (length p - 1 - 0) (omega (arith, (word_path_size p c.requires.word).0)))
+    c.loop-code.invariant ∙ ap (filter_map label_of) (take_all c.loop-code.code-index p (omega arith)) ∙ labels_kept p (ends p c.requires.word) c.requires.codes

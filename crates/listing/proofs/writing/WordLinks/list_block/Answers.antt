@@ -13,7 +13,7 @@ loop-lower-init c = placed_none c.args.out.now c.args.at _ _ _ (from_none c.args
 pub place_row-next-requires : goal.place_row-next-requires
 place_row-next-requires c =
     let l = c.loop-lower in
-    omega (arith, l.invariant.ends, c.requires.room, c.loop-lower-test.true, from_few c.args.self.now.table.now c.args.self.now.x c.args.relation (256 * c.args.upper) l.lower)
+    omega (arith, l.invariant.ends, c.requires, c.loop-lower-test.true, from_few c.args.self.now.table.now c.args.self.now.x c.args.relation (256 * c.args.upper) l.lower)
 
 pub loop-lower-preserved : goal.loop-lower-preserved
 loop-lower-preserved c =

@@ -2,7 +2,8 @@ use Rattle.std.proofs.Common.{◌≡◌, ℕ, ◌≤◌, true, leb, List, length
 use Rattle.refusal.specs.declared.ListFault.{ListFault}
 use Rattle.std.proofs.lemmas.Bool.{cond-true, le-leb}
 use Rattle.double_array.specs.Views.{cells_of, index_of}
-use Rattle.subtrie.specs.Below.{Filled, numbers_from}
+use Rattle.output.specs.Written.{Filled}
+use Rattle.subtrie.specs.Below.{numbers_from}
 use Rattle.subtrie.specs.Laws.{Members, Ordered}
 use Rattle.trie_list.specs.Below.{below_of}
 use Rattle.trie_list.proofs.Below.{words_below, told, made_always}

@@ -1,5 +1,5 @@
 -- Members of lists that are joined or mapped.
-use Rattle.std.proofs.Common.{◌≡◌, ℕ, zero, suc, ◌<◌, ◌⊎◌, List, [], ◌∷◌, ◌++◌, map, length, get_or, refl, ap, ◌∙◌, inl, inr, ⊎_elim, arith}
+use Rattle.std.proofs.Common.{◌≡◌, ℕ, zero, suc, ◌<◌, ◌⊎◌, List, [], ◌∷◌, ◌++◌, map, length, get_or, sym, refl, ap, ◌∙◌, inl, inr, ⊎_elim, arith}
 use Rattle.cells.specs.Trees.{In}
 
 module _ {X : Type 0} where
@@ -21,6 +21,11 @@ module _ {X : Type 0} where
   in_at [] k d h = absurd (omega arith)
   in_at (x ∷ xs) zero d h = inl refl
   in_at (x ∷ xs) (suc k) d h = inr (in_at xs k d (omega arith))
+
+  pub at_in : (xs : List X) (a d : X) → In xs a → (k : ℕ) × (k < length xs) × (get_or xs k d ≡ a)
+  at_in [] a d i = absurd i
+  at_in (x ∷ xs) a d (inl e) = (0, omega arith, sym e)
+  at_in (x ∷ xs) a d (inr i) = let h = at_in xs a d i in (suc h.0, omega (arith, h.1), h.2)
 
 module _ {X Y : Type 0} (f : X → Y) where
   pub in_map : (xs : List X) (a : X) → In xs a → In (map f xs) (f a)
