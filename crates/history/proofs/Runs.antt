@@ -20,8 +20,8 @@ use Rattle.link_table.specs.declared.table.LinkTable.{LinkTable}
 use Rattle.link_table.specs.declared.triple.Triple.{Triple}
 use Rattle.link_table.proofs.Tables.{lawful}
 use Rattle.history.specs.Kits.{Kit, State, state_of, any_growth, number_in, triple_in}
-use Rattle.history.specs.Refusals.{first, word_refusals, add_refusals, tie_refusals, delete_refusals, read_refusals, change_refusals, list_refusals}
-use Rattle.history.specs.Calls.{LinkMade, held_in, place_in, lacks, refusal_of_tie, refusal_of_add, refusal_of_delete, refusal_of_change, refusal_of_list, answered, link_by, read_by, read_of, rows_in}
+use Rattle.history.specs.Refusals.{first, word_refusals, sought_refusals, link_refusals, add_refusals, tie_refusals, read_refusals, change_refusals, list_refusals}
+use Rattle.history.specs.Calls.{LinkMade, held_in, place_in, lacks, refusal_of_tie, refusal_of_add, refusal_of_sought, refusal_of_change, refusal_of_list, answered, link_by, read_by, read_of, rows_in}
 use Rattle.history.specs.Runs.{History, Entry, same_triple, Reached}
 use Rattle.history.specs.Laws.{Unless, has_triple, has_link, entries_of, code_in, Answers, Next, Law}
 use Rattle.cells.proofs.Members.{in_map, map_in}
@@ -164,19 +164,19 @@ module _ {S L R : Type 0} (K : Kit S L R) {es : List (Entry S R)} {us : List ℕ
     add = λ room x y q r n t k.
         let H' = add_grown K (any_growth room) s t x y q r n H k in
         subst (λ (o : Option Refusal). Unless o n)
-        (ap (λ (b : Bool). first (add_refusals x y q (K.good r) (lacks K (any_growth room) s.list x) (lacks K (any_growth room) k.mid y) b (all_held s.table) (place_in K k.last s.table x y q))) (held_is K H'.fits x y q)
-        ∙ ap (λ (b : Bool). first (add_refusals x y q (K.good r) (lacks K (any_growth room) s.list x) (lacks K (any_growth room) k.mid y) (has_triple K es x y q) b (place_in K k.last s.table x y q))) full_is)
+        (ap (λ (b : Bool). first (add_refusals x y q (K.good r) (lacks K (any_growth room) s.list x) (lacks K (any_growth room) k.mid y) (link_refusals b (all_held s.table) (place_in K k.last s.table x y q)))) (held_is K H'.fits x y q)
+        ∙ ap (λ (b : Bool). first (add_refusals x y q (K.good r) (lacks K (any_growth room) s.list x) (lacks K (any_growth room) k.mid y) (link_refusals (has_triple K es x y q) b (place_in K k.last s.table x y q)))) full_is)
         (unless_decided (refusal_of_add K (any_growth room) s.list k.mid k.last s.table x y q r) (state_of k.last s.table s.records) n t
         (LinkMade K (state_of k.last s.table s.records) x y q r n t) (λ j. ap is_ok j.answer) k.result);
     tie = λ x y q r n t k.
         subst (λ (o : Option Refusal). Unless o n)
-        (ap (λ (b : Bool). first (tie_refusals x y q (K.good r) (number_in K s.list x) (number_in K s.list y) b (all_held s.table) (place_in K s.list s.table x y q))) (held_is K H.fits x y q)
-        ∙ ap (λ (b : Bool). first (tie_refusals x y q (K.good r) (number_in K s.list x) (number_in K s.list y) (has_triple K es x y q) b (place_in K s.list s.table x y q))) full_is)
+        (ap (λ (b : Bool). first (tie_refusals x y q (K.good r) (number_in K s.list x) (number_in K s.list y) (link_refusals b (all_held s.table) (place_in K s.list s.table x y q)))) (held_is K H.fits x y q)
+        ∙ ap (λ (b : Bool). first (tie_refusals x y q (K.good r) (number_in K s.list x) (number_in K s.list y) (link_refusals (has_triple K es x y q) b (place_in K s.list s.table x y q)))) full_is)
         (unless_decided (refusal_of_tie K s.list s.table x y q r) s n t (LinkMade K s x y q r n t) (λ j. ap is_ok j.answer) k);
     delete = λ x y q n t k.
         subst (λ (o : Option Refusal). Unless o n)
-        (ap (λ (b : Bool). first (delete_refusals x y q (number_in K s.list x) (number_in K s.list y) b)) (held_is K H.fits x y q))
-        (unless_decided (refusal_of_delete K s.list s.table x y q) s.table n t _ (λ j. ap is_ok j.1) k);
+        (ap (λ (b : Bool). first (sought_refusals x y q (number_in K s.list x) (number_in K s.list y) b)) (held_is K H.fits x y q))
+        (unless_decided (refusal_of_sought K s.list s.table x y q) s.table n t _ (λ j. ap is_ok j.1) k);
     find = λ x y q. unless_answered (first (word_refusals x y q)) (link_by K (number_in K s.list x) (number_in K s.list y) (found s.table (triple_in K s.list x y q)));
     read = read_next K H.fits;
     change = λ u r n rs k.

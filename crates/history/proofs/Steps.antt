@@ -7,7 +7,7 @@ use Rattle.cells.proofs.Basics.{some_is}
 use Rattle.lexicon.specs.Answers.{EnterLeaves}
 use Rattle.lexicon.specs.Rolls.{number_of, Lawful}
 use Rattle.lexicon.proofs.Numbers.{number_from_kept, number_from_last}
-use Rattle.link_table.specs.Tables.{coded, all_held, Out}
+use Rattle.link_table.specs.Tables.{coded, Out}
 use Rattle.link_table.specs.declared.table.LinkTable.{LinkTable}
 use Rattle.listing.specs.declared.row.LinkRow.{LinkRow}
 use Rattle.history.specs.declared.replies.Link.{Link}
@@ -15,7 +15,7 @@ use Rattle.history.specs.declared.replies.Reply.{Reply}
 use Rattle.history.specs.declared.replies.Reply.TheVariants.{Linked, Deleted, Changed}
 use Rattle.history.specs.Kits.{Kit, State, Growth, state_of, any_growth, labels_of, number_in, triple_in}
 use Rattle.history.specs.Refusals.{none, word_refusals, put_refusals, add_refusals, tie_refusals, change_refusals}
-use Rattle.history.specs.Calls.{Call, add, tie, delete, find, read, change, list, figures, Decided, LinkMade, Adds, Ties, Deletes, Changes, Steps, held_in, place_in, lacks, grows, fine, refusal_of_tie, refusal_of_add, refusal_of_delete, refusal_of_change, replied}
+use Rattle.history.specs.Calls.{Call, add, tie, delete, find, read, change, list, figures, Decided, LinkMade, Adds, Ties, Deletes, Changes, Steps, links_in, lacks, grows, fine, refusal_of_tie, refusal_of_add, refusal_of_sought, refusal_of_change, replied}
 use Rattle.history.specs.Runs.{History, Entry, entry_of, rewritten, put_in, taken_out, given, present, present_after, hand_out, take_back, handed, handed_after, handed_by, taken_by, one_if, put_after, puts, delete_after, deletes, Reached, new, after}
 use Rattle.history.proofs.Options.{none_from, none_applies, applies_none}
 use Rattle.history.proofs.Held.{Known, Fits, Grows, grown, new_fits, counts, put_fits, out_fits, change_fits}
@@ -74,7 +74,7 @@ module _ {S L R : Type 0} (K : Kit S L R) {es : List (Entry S R)} {us : List ℕ
       -- where nothing is refused both words are known
       known : refusal_of_tie K s.list s.table x y q r ≡ None → (u : ℕ) → Known K s.list (entry_of x y q u r)
       known z u =
-          let c = none_applies (tie_refusals x y q (K.good r) (number_in K s.list x) (number_in K s.list y) (held_in K s.list s.table x y q) (all_held s.table) (place_in K s.list s.table x y q)) z in
+          let c = none_applies (tie_refusals x y q (K.good r) (number_in K s.list x) (number_in K s.list y) (links_in K s.list s.table x y q)) z in
           let a = some_is (number_in K s.list x) (not-false (is_some (number_in K s.list x)) c.1.1.1.1.0) in
           let b = some_is (number_in K s.list y) (not-false (is_some (number_in K s.list y)) c.1.1.1.1.1.0) in
           record {
@@ -104,7 +104,7 @@ module _ {S L R : Type 0} (K : Kit S L R) {es : List (Entry S R)} {us : List ℕ
       -- where nothing is refused both words are known by then
       known : refusal_of_add K G s.list k.mid k.last s.table x y q r ≡ None → (u : ℕ) → Known K k.last (entry_of x y q u r)
       known z u =
-          let c = none_applies (add_refusals x y q (K.good r) (lacks K G s.list x) (lacks K G k.mid y) (held_in K k.last s.table x y q) (all_held s.table) (place_in K k.last s.table x y q)) z in
+          let c = none_applies (add_refusals x y q (K.good r) (lacks K G s.list x) (lacks K G k.mid y) (links_in K k.last s.table x y q)) z in
           let well : fine K x y q r ≡ true = ap none (applies_none (put_refusals x y q (K.good r)) (c.0, (c.1.0, (c.1.1.0, (c.1.1.1.0, tt))))) in
           let x_fits : lacks K G s.list x ≡ false = c.1.1.1.1.0 in
           let y_fits : lacks K G k.mid y ≡ false = c.1.1.1.1.1.0 in
@@ -123,7 +123,7 @@ module _ {S L R : Type 0} (K : Kit S L R) {es : List (Entry S R)} {us : List ℕ
   -- delete
   delete_held : (l : L) (t t' : LinkTable) (rs : List R) (x y : List S) (q : ℕ) (m : Result ℕ Refusal) (n : Result (Reply R) Refusal) → Held K es us p d (state_of l t rs) → n ≡ replied Deleted m → Deletes K l t x y q m t'
       → Held K (taken_out K x y q (is_ok n) es) (take_back (taken_by n) us) p (one_if (is_ok n) d) (state_of l t' rs)
-  delete_held l t t' rs x y q m n H e does = go (refusal_of_delete K l t x y q) does
+  delete_held l t t' rs x y q m n H e does = go (refusal_of_sought K l t x y q) does
     where
       -- what is held after the answer
       Done : Result (Reply R) Refusal → Type 0

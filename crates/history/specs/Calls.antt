@@ -19,7 +19,7 @@ use Rattle.history.specs.declared.replies.Figures.{Figures as FigurePair}
 use Rattle.history.specs.declared.replies.Reply.{Reply}
 use Rattle.history.specs.declared.replies.Reply.TheVariants.{Linked, Deleted, Found, Read, Changed, Listed, Counted}
 use Rattle.history.specs.Kits.{Kit, State, Growth, state_of, labels_of, number_in, triple_in}
-use Rattle.history.specs.Refusals.{first, none, word_refusals, put_refusals, add_refusals, tie_refusals, delete_refusals, change_refusals, list_refusals}
+use Rattle.history.specs.Refusals.{first, none, word_refusals, sought_refusals, put_refusals, link_refusals, add_refusals, tie_refusals, change_refusals, list_refusals}
 
 -- refused: the answer is that refusal and what the call might change is as it was; otherwise P
 abbrev pub Decided : {A X : Type 0} → Option Refusal → X → Result A Refusal → X → Type 0 → Type 0
@@ -44,6 +44,14 @@ module _ {S L R : Type 0} (K : Kit S L R) where
   abbrev pub place_in : L → LinkTable → List S → List S → ℕ → Bool
   place_in l t x y q = has_place t (triple_in K l x y q)
 
+  -- what refuses the triple as a new one
+  abbrev pub links_in : L → LinkTable → List S → List S → ℕ → List (Bool × Refusal)
+  links_in l t x y q = link_refusals (held_in l t x y q) (all_held t) (place_in l t x y q)
+
+  -- why the triple is not found that is sought
+  abbrev pub refusal_of_sought : L → LinkTable → List S → List S → ℕ → Option Refusal
+  refusal_of_sought l t x y q = first (sought_refusals x y q (number_in K l x) (number_in K l y) (held_in l t x y q))
+
   -- a new triple has the link number u, one from 1 to m that no present triple has; which of them is open.
   -- The table is what the placing rule leaves, and the record stands at its number
   pub record LinkMade (s : State L R) (x y : List S) (q : ℕ) (r : R) (n : Result Link Refusal) (t : State L R) : Type 0 where
@@ -55,7 +63,7 @@ module _ {S L R : Type 0} (K : Kit S L R) where
 
   -- tie: the triple is entered between known words
   abbrev pub refusal_of_tie : L → LinkTable → List S → List S → ℕ → R → Option Refusal
-  refusal_of_tie l t x y q r = first (tie_refusals x y q (K.good r) (number_in K l x) (number_in K l y) (held_in l t x y q) (all_held t) (place_in l t x y q))
+  refusal_of_tie l t x y q r = first (tie_refusals x y q (K.good r) (number_in K l x) (number_in K l y) (links_in l t x y q))
 
   abbrev pub Ties : State L R → List S → List S → ℕ → R → Result Link Refusal → State L R → Type 0
   Ties s x y q r n t = Decided (refusal_of_tie s.list s.table x y q r) s n t (LinkMade s x y q r n t)
@@ -73,7 +81,7 @@ module _ {S L R : Type 0} (K : Kit S L R) where
   fine x y q r = none (first (put_refusals x y q (K.good r)))
 
   abbrev pub refusal_of_add : Growth L → L → L → L → LinkTable → List S → List S → ℕ → R → Option Refusal
-  refusal_of_add G l mid last t x y q r = first (add_refusals x y q (K.good r) (lacks G l x) (lacks G mid y) (held_in last t x y q) (all_held t) (place_in last t x y q))
+  refusal_of_add G l mid last t x y q r = first (add_refusals x y q (K.good r) (lacks G l x) (lacks G mid y) (links_in last t x y q))
 
   -- add: X is entered, then Y, then the triple. Words that were entered before a refusal stay
   pub record Adds (G : Growth L) (s : State L R) (x y : List S) (q : ℕ) (r : R) (n : Result Link Refusal) (t : State L R) : Type 0 where
@@ -85,11 +93,8 @@ module _ {S L R : Type 0} (K : Kit S L R) where
     pub result : Decided (refusal_of_add G s.list mid last s.table x y q r) (state_of last s.table s.records) n t (LinkMade (state_of last s.table s.records) x y q r n t)
 
   -- delete: the triple's path is pruned, and its number answered; list and records stay
-  abbrev pub refusal_of_delete : L → LinkTable → List S → List S → ℕ → Option Refusal
-  refusal_of_delete l t x y q = first (delete_refusals x y q (number_in K l x) (number_in K l y) (held_in l t x y q))
-
   abbrev pub Deletes : L → LinkTable → List S → List S → ℕ → Result ℕ Refusal → LinkTable → Type 0
-  Deletes l t x y q n t' = Decided (refusal_of_delete l t x y q) t n t' ((u : ℕ) × (n ≡ Ok u) × Out t (triple_in K l x y q) u t')
+  Deletes l t x y q n t' = Decided (refusal_of_sought l t x y q) t n t' ((u : ℕ) × (n ≡ Ok u) × Out t (triple_in K l x y q) u t')
 
   -- find: the link where both words and the triple are there; nothing changes
   abbrev pub link_by : Option ℕ → Option ℕ → Option ℕ → Option Link

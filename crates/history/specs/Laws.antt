@@ -14,7 +14,7 @@ use Rattle.listing.specs.declared.row.LinkRow.{LinkRow}
 use Rattle.history.specs.declared.replies.Link.{Link}
 use Rattle.history.specs.declared.replies.Reply.{Reply}
 use Rattle.history.specs.Kits.{Kit, State, any_growth, number_in, triple_in}
-use Rattle.history.specs.Refusals.{first, word_refusals, add_refusals, tie_refusals, delete_refusals, read_refusals, change_refusals, list_refusals}
+use Rattle.history.specs.Refusals.{first, word_refusals, sought_refusals, link_refusals, add_refusals, tie_refusals, read_refusals, change_refusals, list_refusals}
 use Rattle.history.specs.Calls.{Call, lacks, place_in, Ties, Adds, Deletes, Changes, Lists, find_of, read_of, rows_in, figures_of}
 use Rattle.history.specs.Runs.{event_of, History, Entry, same_word, same_triple, present, handed, puts, deletes, Reached}
 
@@ -69,11 +69,11 @@ module _ {S L R : Type 0} (K : Kit S L R) where
   -- a place by the cells
   pub record Next (es : List (Entry S R)) (s : State L R) : Type 0 where
     pub add : (room : L → List ℕ → Bool) (x y : List S) (q : ℕ) (r : R) (n : Result Link Refusal) (t : State L R) → (a : Adds K (any_growth room) s x y q r n t)
-        → Unless (first (add_refusals x y q (K.good r) (lacks K (any_growth room) s.list x) (lacks K (any_growth room) a.mid y) (has_triple K es x y q) (length es == limit s.table) (place_in K a.last s.table x y q))) n
+        → Unless (first (add_refusals x y q (K.good r) (lacks K (any_growth room) s.list x) (lacks K (any_growth room) a.mid y) (link_refusals (has_triple K es x y q) (length es == limit s.table) (place_in K a.last s.table x y q)))) n
     pub tie : (x y : List S) (q : ℕ) (r : R) (n : Result Link Refusal) (t : State L R) → Ties K s x y q r n t
-        → Unless (first (tie_refusals x y q (K.good r) (number_in K s.list x) (number_in K s.list y) (has_triple K es x y q) (length es == limit s.table) (place_in K s.list s.table x y q))) n
+        → Unless (first (tie_refusals x y q (K.good r) (number_in K s.list x) (number_in K s.list y) (link_refusals (has_triple K es x y q) (length es == limit s.table) (place_in K s.list s.table x y q)))) n
     pub delete : (x y : List S) (q : ℕ) (n : Result ℕ Refusal) (t : LinkTable) → Deletes K s.list s.table x y q n t
-        → Unless (first (delete_refusals x y q (number_in K s.list x) (number_in K s.list y) (has_triple K es x y q))) n
+        → Unless (first (sought_refusals x y q (number_in K s.list x) (number_in K s.list y) (has_triple K es x y q))) n
     pub find : (x y : List S) (q : ℕ) → Unless (first (word_refusals x y q)) (find_of K s.list s.table x y q)
     pub read : (u : ℕ) → Unless (first (read_refusals (has_link es u))) (read_of s.table s.records u)
     pub change : (u : ℕ) (r : R) (n : Result (Unit {0}) Refusal) (rs : List R) → Changes K s.table s.records u r n rs → Unless (first (change_refusals (has_link es u) (K.good r))) n

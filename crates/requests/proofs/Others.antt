@@ -1,5 +1,5 @@
 -- The rules of the calls but add say nothing of a list that grows.
-use Rattle.std.proofs.Common.{◌≡◌, ℕ, Bool, false, List, Result, sym, subst}
+use Rattle.std.proofs.Common.{◌≡◌, List, Result, sym, subst}
 use Rattle.refusal.specs.declared.Refusal.{Refusal}
 use Rattle.listing.specs.declared.row.LinkRow.{LinkRow}
 use Rattle.history.specs.declared.replies.Reply.{Reply}

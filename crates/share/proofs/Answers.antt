@@ -11,8 +11,8 @@ use Rattle.listing.specs.Rows.{rows_by}
 use Rattle.listing.proofs.Members.{bounds, below_in}
 use Rattle.history.specs.declared.replies.Link.{Link}
 use Rattle.history.specs.Kits.{Kit, number_in, triple_in}
-use Rattle.history.specs.Refusals.{delete_refusals}
-use Rattle.history.specs.Calls.{answered, link_in, held_in, refusal_of_delete}
+use Rattle.history.specs.Refusals.{sought_refusals}
+use Rattle.history.specs.Calls.{answered, link_in, held_in, refusal_of_sought}
 use Rattle.history.proofs.Options.{none_applies}
 use Rattle.store.specs.Links.{link_answer}
 use Rattle.share.specs.Rounding.{share_of}
@@ -33,8 +33,8 @@ value_is o e = let k = some_is o e in k.1 ∙ ap (λ (p : Option ℕ). Some (unw
 pub link_held : {S L R : Type 0} (K : Kit S L R) (l : L) (t : LinkTable) (x y : List S) (q : ℕ) (link : Link) → Ok link ≡ link_answer K l t x y q → found t (record { x = link.x; relation = q; y = link.y }) ≡ Some link.number
 link_held K l t x y q link e =
     let there = found t (triple_in K l x y q) in
-    let k = accepted (refusal_of_delete K l t x y q) (link_in K l x y (unwrap_or there 0)) link e in
-    let none = none_applies (delete_refusals x y q (number_in K l x) (number_in K l y) (held_in K l t x y q)) k.0 in
+    let k = accepted (refusal_of_sought K l t x y q) (link_in K l x y (unwrap_or there 0)) link e in
+    let none = none_applies (sought_refusals x y q (number_in K l x) (number_in K l y) (held_in K l t x y q)) k.0 in
     subst (λ (w : Link). found t (record { x = w.x; relation = q; y = w.y }) ≡ Some w.number) (sym k.1) (value_is there (not-false (is_some there) none.1.1.1.1.1.0))
 
 -- the count of a present triple is a part of the total of its word and relation

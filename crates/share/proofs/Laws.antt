@@ -16,8 +16,8 @@ use Rattle.listing.proofs.Members.{members}
 use Rattle.listing.proofs.Orders.{rising}
 use Rattle.history.specs.declared.replies.Link.{Link}
 use Rattle.history.specs.Kits.{Kit, state_of, labels_of, number_in, triple_in}
-use Rattle.history.specs.Refusals.{first, none, word_refusals, delete_refusals}
-use Rattle.history.specs.Calls.{answered, link_in, held_in, refusal_of_delete}
+use Rattle.history.specs.Refusals.{first, none, word_refusals, sought_refusals}
+use Rattle.history.specs.Calls.{answered, link_in, held_in, refusal_of_sought}
 use Rattle.history.specs.Runs.{Entry, same_word, same_triple, present}
 use Rattle.history.specs.Laws.{Unless, asks, entries_of}
 use Rattle.history.proofs.Members.{apart_from, kept_map}
@@ -113,7 +113,7 @@ unless_share t records k None v = refl
 module _ {S L : Type 0} (K : Kit S L Tally) (apart : WordsApart K.spelling) (good : (tally : Tally) → K.good tally ≡ true → sound_tally tally ≡ true) (l : L) (t : LinkTable) (records : List Tally) (x y : List S) (q : ℕ) where
   -- the refusals, judged by the table
   abbrev refusal : Option Refusal
-  refusal = refusal_of_delete K l t x y q
+  refusal = refusal_of_sought K l t x y q
 
   -- the link of an entry of the triple is not refused, and it is answered
   link_is : {es : List (Entry S Tally)} {us : List ℕ} (F : Fits K es us l t records) (e : Entry S Tally) → In es e → same_triple K x y q e ≡ true
@@ -131,7 +131,7 @@ module _ {S L : Type 0} (K : Kit S L Tally) (apart : WordsApart K.spelling) (goo
       let there : found t (triple_in K l x y q) ≡ Some e.link = ap (found t) (sym (triple_from K l x y q e same)) ∙ stands.held in
       let fit = none_applies (word_refusals e.x e.y e.relation) known.fit in
       let some : eqb q 0 ≡ false = ap (λ (k : ℕ). eqb k 0) (sym eq) ∙ fit.1.1.0 in
-      let fine : refusal ≡ None = applies_none (delete_refusals x y q (number_in K l x) (number_in K l y) (held_in K l t x y q)) (
+      let fine : refusal ≡ None = applies_none (sought_refusals x y q (number_in K l x) (number_in K l y) (held_in K l t x y q)) (
         ap (λ (w : List S). not (word_sized w)) (sym ex) ∙ fit.0,
         (ap (λ (w : List S). not (word_sized w)) (sym ey) ∙ fit.1.0, (some, (ap none x_number, (ap none y_number, (ap none there, tt))))),
       ) in (
@@ -152,6 +152,6 @@ module _ {S L : Type 0} (K : Kit S L Tally) (apart : WordsApart K.spelling) (goo
         ∙ ap (λ (n : ℕ). Ok (share_of e.kept.count n)) (same_total K F x q k.2.0 k.1 k.2.1);
     positive = λ h run e i same. le_trans (sound_some e.kept (good e.kept ((law_of K run).sound e i))) (part_of_entries K (present K h) x y q e i same);
     refused = λ h run.
-        subst (λ (b : Bool). Unless (first (delete_refusals x y q (number_in K l x) (number_in K l y) b)) r) (held_is K (held_of K run).fits x y q)
+        subst (λ (b : Bool). Unless (first (sought_refusals x y q (number_in K l x) (number_in K l y) b)) r) (held_is K (held_of K run).fits x y q)
         (subst (Unless refusal) (sym answer) (unless_share t records q refusal (link_in K l x y (unwrap_or (found t (triple_in K l x y q)) 0))));
   }

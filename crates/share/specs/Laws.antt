@@ -7,7 +7,7 @@ use Rattle.record.specs.Soundness.{sound_tally}
 use Rattle.record.specs.declared.Tally.{Tally}
 use Rattle.cells.specs.Trees.{In}
 use Rattle.history.specs.Kits.{Kit, kit_of, State, number_in}
-use Rattle.history.specs.Refusals.{first, delete_refusals}
+use Rattle.history.specs.Refusals.{first, sought_refusals}
 use Rattle.history.specs.Runs.{History, Entry, same_word, same_triple, present, Reached}
 use Rattle.history.specs.Laws.{Unless, has_triple}
 use Rattle.share.specs.Rounding.{share_of}
@@ -35,4 +35,4 @@ module _ {S L : Type 0} (K : Kit S L Tally) where
     pub positive : (h : History S Tally) → Reached K h s → (e : Entry S Tally) → In (present K h) e → same_triple K x y q e ≡ true
         → 1 ≤ total_after h x q
     -- it is refused by the first refusal that applies, judged by the roll and the present triples, and by no other
-    pub refused : (h : History S Tally) → Reached K h s → Unless (first (delete_refusals x y q (number_in K s.list x) (number_in K s.list y) (has_triple K (present K h) x y q))) r
+    pub refused : (h : History S Tally) → Reached K h s → Unless (first (sought_refusals x y q (number_in K s.list x) (number_in K s.list y) (has_triple K (present K h) x y q))) r

@@ -7,12 +7,11 @@ use Rattle.refusal.specs.declared.Refusal.TheVariants.{NoRoom}
 use Rattle.lexicon.specs.Rolls.{number_of}
 use Rattle.lexicon.specs.Answers.{EnterLeaves}
 use Rattle.lexicon.proofs.Numbers.{number_from_kept, number_from_last}
-use Rattle.link_table.specs.Tables.{all_held}
 use Rattle.link_table.specs.declared.table.LinkTable.{LinkTable}
 use Rattle.history.specs.declared.replies.Link.{Link}
 use Rattle.history.specs.Kits.{Kit, Growth, state_of, labels_of, number_in}
-use Rattle.history.specs.Refusals.{first, none, put_refusals, link_refusals}
-use Rattle.history.specs.Calls.{held_in, place_in, lacks, grows, fine, refusal_of_add, Adds}
+use Rattle.history.specs.Refusals.{first, none, put_refusals}
+use Rattle.history.specs.Calls.{links_in, lacks, grows, fine, refusal_of_add, Adds}
 use Rattle.store.specs.Words.{entered_answer, EnteredWord}
 use Rattle.store.specs.Links.{Joins}
 use Rattle.store.proofs.Decisions.{first_on, first_out, decided_err}
@@ -53,11 +52,8 @@ module _ {S L R : Type 0} (K : Kit S L R) (G : Growth L) where
         record { entered = k.1; went = by_cases n (number_in K l x) refl (G.room l (labels_of K x)) refl k.0 k.1 }
 
 module _ {S L R : Type 0} (K : Kit S L R) (G : Growth L) (l : L) (t : LinkTable) (rs : List R) (x y : List S) (q : ℕ) (r : R) where
-  abbrev links : L → List (Bool × Refusal)
-  links last = link_refusals (held_in K last t x y q) (all_held t) (place_in K last t x y q)
-
   abbrev after_y : L → L → List (Bool × Refusal)
-  after_y mid last = (lacks K G mid y, NoRoom Second) ∷ links last
+  after_y mid last = (lacks K G mid y, NoRoom Second) ∷ links_in K last t x y q
 
   abbrev after_x : L → L → List (Bool × Refusal)
   after_x mid last = (lacks K G l x, NoRoom First) ∷ after_y mid last
@@ -110,7 +106,7 @@ module _ {S L R : Type 0} (K : Kit S L R) (G : Growth L) (l : L) (t : LinkTable)
         x_entered = x_in;
         y_entered = y_in w.entered;
         result = decided_err (refusal_of_add K G l mid last t x y q r) (state_of last t rs) n _ (NoRoom Second)
-            (past_x (after_y mid last) ∙ ap (λ (b : Bool). cond b (Some (NoRoom Second)) (first (links last))) w.went.1) (en ∙ ap (λ (e : Refusal). Err e) w.went.0);
+            (past_x (after_y mid last) ∙ ap (λ (b : Bool). cond b (Some (NoRoom Second)) (first (links_in K last t x y q))) w.went.1) (en ∙ ap (λ (e : Refusal). Err e) w.went.0);
       }
 
       module _ (b : ℕ) (wy : Stepped K G mid y Second last (Ok b)) where
@@ -127,5 +123,5 @@ module _ {S L R : Type 0} (K : Kit S L R) (G : Growth L) (l : L) (t : LinkTable)
           x_entered = x_in;
           y_entered = y_in wy.entered;
           result = link_made K last t t' rs rs' x y q r (record { x = a; relation = q; y = b }) (x_kept (grows K G mid y) wy.entered) wy.went.0 refl n (refusal_of_add K G l mid last t x y q r)
-              (past_x (after_y mid last) ∙ ap (λ (z : Bool). cond z (Some (NoRoom Second)) (first (links last))) wy.went.1) h;
+              (past_x (after_y mid last) ∙ ap (λ (z : Bool). cond z (Some (NoRoom Second)) (first (links_in K last t x y q))) wy.went.1) h;
         }

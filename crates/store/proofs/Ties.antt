@@ -13,8 +13,8 @@ use Rattle.link_table.specs.declared.table.LinkTable.{LinkTable}
 use Rattle.link_table.specs.declared.triple.Triple.{Triple}
 use Rattle.history.specs.declared.replies.Link.{Link}
 use Rattle.history.specs.Kits.{Kit, state_of, number_in, triple_in}
-use Rattle.history.specs.Refusals.{first, none, word_refusals, put_refusals, link_refusals}
-use Rattle.history.specs.Calls.{Decided, LinkMade, held_in, place_in, refusal_of_tie, Ties, refusal_of_delete, Deletes, answered, link_by, link_in, find_of}
+use Rattle.history.specs.Refusals.{first, none, word_refusals, unknown_refusals, put_refusals, link_refusals}
+use Rattle.history.specs.Calls.{Decided, LinkMade, held_in, links_in, refusal_of_tie, Ties, refusal_of_sought, Deletes, answered, link_by, link_in, find_of}
 use Rattle.store.specs.declared.labels.WordPair.{WordPair}
 use Rattle.store.specs.Words.{labels_in, Holds, KnownTriple}
 use Rattle.store.specs.Links.{Joins, JoinsAt, link_answer}
@@ -39,7 +39,7 @@ same_triple K l x y q triple ex ey eq =
 
 -- of known words none is refused as unknown
 pub known_none : {S L R : Type 0} (K : Kit S L R) (l : L) (x y : List S) {a b : ℕ} → number_in K l x ≡ Some a → number_in K l y ≡ Some b
-    → first ((none (number_in K l x), UnknownWord First) ∷ (none (number_in K l y), UnknownWord Second) ∷ []) ≡ None
+    → first (unknown_refusals (number_in K l x) (number_in K l y)) ≡ None
 known_none K l x y ex ey =
     ap (λ (o : Option ℕ). cond (none o) (Some (UnknownWord First)) (cond (none (number_in K l y)) (Some (UnknownWord Second)) None)) ex
     ∙ ap (λ (o : Option ℕ). cond (none o) (Some (UnknownWord Second)) None) ey
@@ -60,7 +60,7 @@ module _ {S L R : Type 0} (K : Kit S L R) (l : L) (t t' : LinkTable) (rs rs' : L
       records = h.3;
     }
 
-    pub link_made : (n : Result Link Refusal) (o : Option Refusal) → o ≡ first (link_refusals (held_in K l t x y q) (all_held t) (place_in K l t x y q)) → Joins t rs triple r n t' rs'
+    pub link_made : (n : Result Link Refusal) (o : Option Refusal) → o ≡ first (links_in K l t x y q) → Joins t rs triple r n t' rs'
         → Decided o (state_of l t rs) n (state_of l t' rs') (LinkMade K (state_of l t rs) x y q r n (state_of l t' rs'))
     link_made n o e h =
         by_refusal n o (subst (λ (z : Option Refusal). JoinsAt z t rs triple r n t' rs')
@@ -68,16 +68,13 @@ module _ {S L R : Type 0} (K : Kit S L R) (l : L) (t t' : LinkTable) (rs rs' : L
 
 module _ {S L R : Type 0} (K : Kit S L R) (l : L) (t : LinkTable) (rs : List R) (x y : List S) (q : ℕ) (r : R) where
   abbrev unknowns : List (Bool × Refusal)
-  unknowns = (none (number_in K l x), UnknownWord First) ∷ (none (number_in K l y), UnknownWord Second) ∷ []
-
-  abbrev links : List (Bool × Refusal)
-  links = link_refusals (held_in K l t x y q) (all_held t) (place_in K l t x y q)
+  unknowns = unknown_refusals (number_in K l x) (number_in K l y)
 
   -- refused since a word is not in the list
   pub tie_unknown : (f : Refusal) (n : Result Link Refusal) → first (put_refusals x y q (K.good r)) ≡ None → first unknowns ≡ Some f → n ≡ Err f → Ties K (state_of l t rs) x y q r n (state_of l t rs)
   tie_unknown f n fit e en =
       decided_err (refusal_of_tie K l t x y q r) (state_of l t rs) n _ f
-      (first_on (put_refusals x y q (K.good r)) (unknowns ++ links) fit ∙ first_out unknowns links f e) en
+      (first_on (put_refusals x y q (K.good r)) (unknowns ++ links_in K l t x y q) fit ∙ first_out unknowns (links_in K l t x y q) f e) en
 
   -- the words are known, and the table has decided
   pub tie_joined : (n : Result Link Refusal) (t' : LinkTable) (rs' : List R) → first (put_refusals x y q (K.good r)) ≡ None
@@ -85,7 +82,7 @@ module _ {S L R : Type 0} (K : Kit S L R) (l : L) (t : LinkTable) (rs : List R) 
       → Joins t rs triple r n t' rs' → Ties K (state_of l t rs) x y q r n (state_of l t' rs')
   tie_joined n t' rs' fit triple ex ey eq h =
       link_made K l t t' rs rs' x y q r triple ex ey eq n (refusal_of_tie K l t x y q r)
-      (first_on (put_refusals x y q (K.good r)) (unknowns ++ links) fit ∙ first_on unknowns links (known_none K l x y ex ey)) h
+      (first_on (put_refusals x y q (K.good r)) (unknowns ++ links_in K l t x y q) fit ∙ first_on unknowns (links_in K l t x y q) (known_none K l x y ex ey)) h
 
 -- what is known of the labels of words is known of the words
 pub known_words : {S L R : Type 0} (K : Kit S L R) (l : L) (x y : List S) (q : ℕ) (p : WordPair) (n : Result Triple Refusal) → Holds K.spelling x y p
@@ -111,15 +108,15 @@ module _ {S L R : Type 0} (K : Kit S L R) (l : L) (t : LinkTable) (x y : List S)
   absent = (not (held_in K l t x y q), TripleAbsent) ∷ []
 
   abbrev unknown : List (Bool × Refusal)
-  unknown = (none (number_in K l x), UnknownWord First) ∷ (none (number_in K l y), UnknownWord Second) ∷ []
+  unknown = unknown_refusals (number_in K l x) (number_in K l y)
 
   -- a word is not in the list
-  pub refusal_unknown : (f : Refusal) → KnownTriple (number_in K l x) (number_in K l y) q (Err f) → refusal_of_delete K l t x y q ≡ Some f
+  pub refusal_unknown : (f : Refusal) → KnownTriple (number_in K l x) (number_in K l y) q (Err f) → refusal_of_sought K l t x y q ≡ Some f
   refusal_unknown f e = first_on (word_refusals x y q) (unknown ++ absent) fit ∙ first_out unknown absent f e
 
   module _ (triple : Triple) (known : KnownTriple (number_in K l x) (number_in K l y) q (Ok triple)) where
     -- known words are refused only if their triple is not present
-    pub refusal_is : refusal_of_delete K l t x y q ≡ first ((not (is_some (found t triple)), TripleAbsent) ∷ [])
+    pub refusal_is : refusal_of_sought K l t x y q ≡ first ((not (is_some (found t triple)), TripleAbsent) ∷ [])
     refusal_is =
         first_on (word_refusals x y q) (unknown ++ absent) fit
         ∙ first_on unknown absent (known_none K l x y known.0 known.1)
@@ -128,7 +125,7 @@ module _ {S L R : Type 0} (K : Kit S L R) (l : L) (t : LinkTable) (x y : List S)
     -- taken out
     pub delete_out : (u : ℕ) (t' : LinkTable) → Out t triple u t' → Deletes K l t x y q (Ok u) t'
     delete_out u t' out =
-        decided_ok (refusal_of_delete K l t x y q) t (Ok u) t' _
+        decided_ok (refusal_of_sought K l t x y q) t (Ok u) t' _
         (refusal_is ∙ ap (λ (o : Option ℕ). first ((not (is_some o), TripleAbsent) ∷ [])) out.had)
         (u, refl, subst (λ (z : Triple). Out t z u t') (sym (same_triple K l x y q triple known.0 known.1 known.2)) out)
 
@@ -136,7 +133,7 @@ module _ {S L R : Type 0} (K : Kit S L R) (l : L) (t : LinkTable) (x y : List S)
     pub delete_absent : (t' : LinkTable) → found t triple ≡ None → (f : Refusal) → f ≡ TripleAbsent → (n : Result ℕ Refusal) → n ≡ Err f → t' ≡ t → Deletes K l t x y q n t'
     delete_absent t' none f e n en same =
         subst (λ (z : LinkTable). Deletes K l t x y q n z) (sym same)
-        (decided_err (refusal_of_delete K l t x y q) t n _ f
+        (decided_err (refusal_of_sought K l t x y q) t n _ f
         (refusal_is ∙ ap (λ (o : Option ℕ). first ((not (is_some o), TripleAbsent) ∷ [])) none ∙ ap (λ (z : Refusal). Some z) (sym e)) en)
 
     -- the link of known words

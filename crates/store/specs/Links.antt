@@ -10,7 +10,7 @@ use Rattle.link_table.specs.declared.table.LinkTable.{LinkTable}
 use Rattle.link_table.specs.declared.triple.Triple.{Triple}
 use Rattle.history.specs.declared.replies.Link.{Link}
 use Rattle.history.specs.Kits.{Kit, triple_in}
-use Rattle.history.specs.Calls.{answered, link_in, refusal_of_delete}
+use Rattle.history.specs.Calls.{answered, link_in, refusal_of_sought}
 use Rattle.history.specs.Refusals.{first, link_refusals}
 
 -- the meaning that a script and a list give to calls that see no record
@@ -29,6 +29,6 @@ JoinsAt None s rs triple r n t rs' = (u : ℕ) × (n ≡ Ok (record { x = triple
 abbrev pub Joins : {R : Type 0} → LinkTable → List R → Triple → R → Result Link Refusal → LinkTable → List R → Type 0
 Joins s rs triple r n t rs' = JoinsAt (first (link_refusals (is_some (found s triple)) (all_held s) (has_place s triple))) s rs triple r n t rs'
 
--- the link of a triple that is present, by the refusals of delete
+-- the link of a triple that is sought, or why it is not found
 abbrev pub link_answer : {S L R : Type 0} → Kit S L R → L → LinkTable → List S → List S → ℕ → Result Link Refusal
-link_answer K l t x y q = answered (refusal_of_delete K l t x y q) (link_in K l x y (unwrap_or (found t (triple_in K l x y q)) 0))
+link_answer K l t x y q = answered (refusal_of_sought K l t x y q) (link_in K l x y (unwrap_or (found t (triple_in K l x y q)) 0))

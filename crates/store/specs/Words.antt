@@ -1,15 +1,14 @@
 -- Words of symbols, spelled and looked up: the parts that the calls are made of.
-use Rattle.std.specs.Prelude.{◌≡◌, ℕ, ◌+◌, Bool, true, false, ◌&&◌, List, [], ◌∷◌, length, Some, None, Ok, Err, Option, Result}
+use Rattle.std.specs.Prelude.{◌≡◌, ℕ, ◌+◌, Bool, true, false, ◌&&◌, List, length, Some, None, Ok, Err, Option, Result}
 use Rattle.refusal.specs.declared.Side.{Side}
-use Rattle.refusal.specs.declared.Side.TheVariants.{First, Second}
 use Rattle.refusal.specs.declared.Refusal.{Refusal}
-use Rattle.refusal.specs.declared.Refusal.TheVariants.{WordLength, UnknownWord, NoRoom}
+use Rattle.refusal.specs.declared.Refusal.TheVariants.{WordLength, NoRoom}
 use Rattle.script.specs.Words.{word_sized, spelled}
 use Rattle.lexicon.specs.Rolls.{number_of}
 use Rattle.lexicon.specs.Answers.{EnterLeaves}
 use Rattle.link_table.specs.declared.triple.Triple.{Triple}
 use Rattle.history.specs.Kits.{Growth}
-use Rattle.history.specs.Refusals.{first, none, word_refusals, put_refusals}
+use Rattle.history.specs.Refusals.{first, none, word_refusals, unknown_refusals, put_refusals}
 use Rattle.store.specs.declared.labels.Labels.{Labels}
 use Rattle.store.specs.declared.labels.WordPair.{WordPair}
 
@@ -39,7 +38,7 @@ Admitted spelling x y q good (Err e) = first (put_refusals x y q good) ≡ Some 
 -- the triple of two words that have the numbers a and b, or the first of them that has none
 abbrev pub KnownTriple : Option ℕ → Option ℕ → ℕ → Result Triple Refusal → Type 0
 KnownTriple a b q (Ok t) = (a ≡ Some t.x) × (b ≡ Some t.y) × (t.relation ≡ q)
-KnownTriple a b q (Err e) = first ((none a, UnknownWord First) ∷ (none b, UnknownWord Second) ∷ []) ≡ Some e
+KnownTriple a b q (Err e) = first (unknown_refusals a b) ≡ Some e
 
 -- entering a word of the right length, whose number was a: it keeps its number, or becomes the last, or has no room
 abbrev pub entered_answer : Option ℕ → Bool → ℕ → Side → Result ℕ Refusal

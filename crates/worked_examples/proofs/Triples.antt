@@ -17,8 +17,8 @@ use Rattle.link_table.specs.Tables.{limit, numbers, Put, Out}
 use Rattle.link_table.specs.declared.triple.Triple.{Triple}
 use Rattle.history.specs.declared.replies.Link.{Link}
 use Rattle.history.specs.Kits.{Kit, State, number_in, triple_in}
-use Rattle.history.specs.Refusals.{first, tie_refusals, delete_refusals}
-use Rattle.history.specs.Calls.{Decided, LinkMade, figures_of, refusal_of_tie, refusal_of_delete}
+use Rattle.history.specs.Refusals.{first, link_refusals, tie_refusals, sought_refusals}
+use Rattle.history.specs.Calls.{Decided, LinkMade, figures_of, refusal_of_tie, refusal_of_sought}
 use Rattle.worked_examples.specs.Triples.{Word, NewStore, Tied, Deleted}
 use Rattle.worked_examples.proofs.Starts.{new_cells}
 
@@ -90,7 +90,7 @@ module _ {S L R : Type 0} (K : Kit S L R) where
         let held = held_is ∙ absent in
         let full : eqb (length (numbers s.table)) (limit s.table) ≡ false = ap (λ (n : ℕ). eqb n (limit s.table)) H.held ∙ ap (eqb k) H.most ∙ spare in
         let placed = place_is ∙ has in
-        (λ i. first (tie_refusals x.symbols y.symbols q (sound i) (x_number i) (y_number i) (held i) (full i) (placed i))) ∙ fit (cond (not place) (Some NoPlace) None)
+        (λ i. first (tie_refusals x.symbols y.symbols q (sound i) (x_number i) (y_number i) (link_refusals (held i) (full i) (placed i)))) ∙ fit (cond (not place) (Some NoPlace) None)
 
     -- the code has a place, whatever the index: the triple is tied
     pub tied : (n : Result Link Refusal) → Tied K s x.symbols y.symbols q n t → is_some (number_at cs (path_of_triple (triple a q b))) ≡ false → eqb k 3 ≡ false
@@ -128,8 +128,8 @@ module _ {S L R : Type 0} (K : Kit S L R) where
         → (u : ℕ) × (n ≡ Ok u) × Out s.table (triple a q b) u t.table × Known l t ds (k - 1)
     taken n D there ds step =
         let held = held_is ∙ there in
-        let fine : refusal_of_delete K s.list s.table x.symbols y.symbols q ≡ None =
-        (λ i. first (delete_refusals x.symbols y.symbols q (x_number i) (y_number i) (held i))) ∙ fit None in
+        let fine : refusal_of_sought K s.list s.table x.symbols y.symbols q ≡ None =
+        (λ i. first (sought_refusals x.symbols y.symbols q (x_number i) (y_number i) (held i))) ∙ fit None in
         let gone = subst (λ (o : Option Refusal). Decided o s.table n t.table ((u : ℕ) × (n ≡ Ok u) × Out s.table (triple_in K s.list x.symbols y.symbols q) u t.table)) fine D.deletes in
         let out : Out s.table (triple a q b) gone.0 t.table = subst (λ (c : Triple). Out s.table c gone.0 t.table) triple_is gone.2 in (
           gone.0,
