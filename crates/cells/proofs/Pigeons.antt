@@ -42,7 +42,7 @@ sums_under f g R one under (x ∷ xs) ys a h =
     omega (arith, sum_by-cons f x xs, sum_without g ys k.0 k.1, under x k.0 k.2)
 
 -- a list is as long as ones at its elements add up to
-ones : {X : Type 0} (xs : List X) → sum_by (λ x. 1) xs ≡ length xs
+pub ones : {X : Type 0} (xs : List X) → sum_by (λ x. 1) xs ≡ length xs
 ones [] = refl
 ones (x ∷ xs) = omega (arith, sum_by-cons (λ z. 1) x xs, ones xs)
 

@@ -1,10 +1,10 @@
 -- Listing a word gives its entries.
-use Rattle.std.proofs.Common.{◌≡◌, ℕ, zero, suc, Bool, true, ◌&&◌, List, [], ◌∷◌, length, Some, Option, unwrap_or, sym, refl, ap, ◌∙◌, subst, ⊎_elim, le_antisymm, arith}
+use Rattle.std.proofs.Common.{◌≡◌, ℕ, zero, suc, Bool, true, ◌&&◌, List, [], ◌∷◌, length, Some, sum_by, Option, unwrap_or, sym, refl, ap, ◌∙◌, subst, ⊎_elim, le_of_eq, le_antisymm, arith}
 use Rattle.std.proofs.lemmas.Slice.Eq.{bytes_eq-Decides}
 use Rattle.std.proofs.lemmas.Bool.{eqb-true, eqb-false, eq-eqb, and_parts, and_from}
 use Rattle.cells.specs.Trees.{In, Apart}
 use Rattle.cells.proofs.Basics.{some_same}
-use Rattle.cells.proofs.Pigeons.{pigeons, in_kept, from_kept, apart_kept}
+use Rattle.cells.proofs.Pigeons.{sums_under, ones, in_kept, from_kept, apart_kept}
 use Rattle.lexicon.specs.Rolls.{number_of}
 use Rattle.link_table.specs.Tables.{found, coded}
 use Rattle.link_table.specs.declared.table.LinkTable.{LinkTable}
@@ -86,16 +86,21 @@ module _ {S L R : Type 0} (K : Kit S L R) {es : List (Entry S R)} {us : List ℕ
       let has = ap (λ (n : ℕ). found t (record { x = n; relation = e.relation; y = known.b })) (sym at) ∙ sym (ap (found t) (triple_known K l e known)) ∙ h.held in
       (record { relation = e.relation; y = known.b; link = e.link }, (members t word q).whole e.relation known.b e.link has (from_asks q e.relation some parts.1), refl, known.y_number, refl)
 
-  -- they are as many
-  pub as_many_rows : length rows ≡ length (entries_of K es x q)
-  as_many_rows =
-      let Shows : LinkRow → Entry S R → Type 0 = λ r e. (found t (record { x = word; relation = r.relation; y = r.y }) ≡ Some r.link) × (r.link ≡ e.link) in
+  -- they add up to the same, where a row adds what the entry with its number does
+  pub same_sums : (f : LinkRow → ℕ) (g : Entry S R → ℕ) → ((r : LinkRow) (e : Entry S R) → In es e → r.link ≡ e.link → f r ≡ g e) → sum_by f rows ≡ sum_by g (entries_of K es x q)
+  same_sums f g same =
+      let Shows : LinkRow → Entry S R → Type 0 = λ r e. (found t (record { x = word; relation = r.relation; y = r.y }) ≡ Some r.link) × In es e × (r.link ≡ e.link) in
       let Shown : Entry S R → LinkRow → Type 0 = λ e r. In es e × (e.link ≡ r.link) in
       le_antisymm
-      (pigeons Shows (λ r s e i j. row_same t word r s e.link i.0 j.0 i.1 j.1) rows (entries_of K es x q) (rising_apart rows (rising t word q))
-      (λ r i. let k = from_row r i in (k.0, k.1, (((members t word q).present r i).0, k.4))))
-      (pigeons Shown (λ e f r i j. same_link K F e f i.0 j.0 (i.1 ∙ sym j.1)) (entries_of K es x q) rows (apart_kept test es (apart_from link_of es (subst Apart F.numbers F.unlike)))
+      (sums_under f g Shows (λ r s e i j. row_same t word r s e.link i.0 j.0 i.2 j.2) (λ r e i. le_of_eq (same r e i.1 i.2)) rows (entries_of K es x q) (rising_apart rows (rising t word q))
+      (λ r i. let k = from_row r i in (k.0, k.1, (((members t word q).present r i).0, (from_kept test es k.0 k.1).1, k.4))))
+      (sums_under g f Shown (λ e d r i j. same_link K F e d i.0 j.0 (i.1 ∙ sym j.1)) (λ e r i. le_of_eq (sym (same r e i.0 (sym i.1)))) (entries_of K es x q) rows
+      (apart_kept test es (apart_from link_of es (subst Apart F.numbers F.unlike)))
       (λ e i. let k = to_row e i in (k.0, k.1, ((from_kept test es e i).1, sym k.4))))
+
+  -- so they are as many
+  pub as_many_rows : length rows ≡ length (entries_of K es x q)
+  as_many_rows = sym (ones rows) ∙ same_sums (λ _. 1) (λ _. 1) (λ r e i z. refl) ∙ ones (entries_of K es x q)
 
   -- so listing the word gives its entries
   pub listing_of : Listing K (state_of l t rs) es x q

@@ -1,34 +1,30 @@
 -- The share is that of the present triples.
-use Rattle.std.proofs.Common.{◌≡◌, ℕ, zero, suc, ◌≤◌, Bool, true, false, not, ◌&&◌, leb, eqb, List, map, Some, None, Ok, sum_by, filter, Option, Result, unwrap_or, sym, refl, ap, ◌∙◌, subst, le_of_eq, le_trans, le_antisymm}
+use Rattle.std.proofs.Common.{◌≡◌, ℕ, zero, suc, ◌≤◌, Bool, true, false, not, ◌&&◌, leb, eqb, List, map, Some, None, Ok, sum_by, filter, Option, Result, unwrap_or, sym, refl, ap, ◌∙◌, subst, le_trans}
 use Rattle.std.proofs.lemmas.Slice.Eq.{bytes_eq-Decides}
 use Rattle.std.proofs.lemmas.Bool.{and_parts, and_from, leb-true, eqb-true, eqb-false}
 use Rattle.refusal.specs.declared.Refusal.{Refusal}
 use Rattle.script.specs.Words.{word_sized, WordsApart}
 use Rattle.record.specs.Soundness.{sound_tally}
 use Rattle.record.specs.declared.Tally.{Tally}
-use Rattle.cells.specs.Trees.{In, Apart}
-use Rattle.cells.proofs.Pigeons.{in_kept, from_kept, apart_kept, part_of_sum, sums_under}
+use Rattle.cells.specs.Trees.{In}
+use Rattle.cells.proofs.Pigeons.{in_kept, part_of_sum}
 use Rattle.link_table.specs.Tables.{found}
 use Rattle.link_table.specs.declared.table.LinkTable.{LinkTable}
-use Rattle.listing.specs.Rows.{rows_of}
-use Rattle.listing.specs.declared.row.LinkRow.{LinkRow}
-use Rattle.listing.proofs.Members.{members}
-use Rattle.listing.proofs.Orders.{rising}
 use Rattle.history.specs.declared.replies.Link.{Link}
 use Rattle.history.specs.Kits.{Kit, state_of, labels_of, number_in, triple_in}
 use Rattle.history.specs.Refusals.{first, none, word_refusals, sought_refusals}
 use Rattle.history.specs.Calls.{answered, link_in, held_in, refusal_of_sought}
 use Rattle.history.specs.Runs.{Entry, same_word, same_triple, present}
-use Rattle.history.specs.Laws.{Unless, asks, entries_of}
-use Rattle.history.proofs.Members.{apart_from, kept_map}
+use Rattle.history.specs.Laws.{Unless}
+use Rattle.history.proofs.Members.{kept_map}
 use Rattle.history.proofs.Options.{none_applies, applies_none}
-use Rattle.history.proofs.Held.{link_of, Fits, triple_from, same_link}
+use Rattle.history.proofs.Held.{Fits, triple_from}
 use Rattle.history.proofs.Steps.{held_of}
-use Rattle.history.proofs.Listings.{rising_apart, row_same, listing_of}
+use Rattle.history.proofs.Listings.{same_sums}
 use Rattle.history.proofs.Runs.{held_is, law_of}
 use Rattle.store.specs.Links.{link_answer}
 use Rattle.share.specs.Rounding.{share_of}
-use Rattle.share.specs.Shares.{count_of, count_at, sum_at, present_in, share_answer}
+use Rattle.share.specs.Shares.{count_of, count_at, present_in, share_answer}
 use Rattle.share.specs.Totals.{Counted, total_of}
 use Rattle.share.specs.Laws.{counted, ShareLaw}
 use Rattle.share.proofs.Present.{rows_total}
@@ -57,49 +53,11 @@ module _ {S L : Type 0} (K : Kit S L Tally) {es : List (Entry S Tally)} {us : Li
   count_is : (e : Entry S Tally) → In es e → count_at records e.link ≡ e.kept.count
   count_is e i = ap count_of (F.stands e i).kept
 
-  module _ (x : List S) (q a : ℕ) (number : number_in K l x ≡ Some a) where
-    -- the number of the word
-    abbrev word : ℕ
-    word = unwrap_or (number_in K l x) 0
-
-    -- its rows
-    abbrev rows : List LinkRow
-    rows = rows_of t word q
-
-    -- whether an entry is asked for
-    abbrev test : Entry S Tally → Bool
-    test e = same_word K e.x x && asks q e.relation
-
-    -- a row shows an entry with its count
-    abbrev Shows : LinkRow → Entry S Tally → Type 0
-    Shows r e = (found t (record { x = word; relation = r.relation; y = r.y }) ≡ Some r.link) × (r.link ≡ e.link) × (count_at records r.link ≡ e.kept.count)
-
-    -- an entry is shown by a row with its count
-    abbrev Shown : Entry S Tally → LinkRow → Type 0
-    Shown e r = In es e × (e.link ≡ r.link) × (e.kept.count ≡ count_at records r.link)
-
-    -- the counts at the rows are those of the entries
-    same_sums : sum_at records rows ≡ sum_by (λ e. e.kept.count) (entries_of K es x q)
-    same_sums =
-        let shown = listing_of K F x q a number in
-        le_antisymm
-        (sums_under (λ (r : LinkRow). count_at records r.link) (λ (e : Entry S Tally). e.kept.count) Shows
-        (λ r s e i j. row_same t word r s e.link i.0 j.0 i.1 j.1) (λ r e i. le_of_eq i.2)
-        rows (entries_of K es x q) (rising_apart rows (rising t word q))
-        (λ r i. let k = shown.rows r i in (k.0, k.1, (((members t word q).present r i).0, k.4, ap (count_at records) k.4 ∙ count_is k.0 (from_kept test es k.0 k.1).1))))
-        (sums_under (λ (e : Entry S Tally). e.kept.count) (λ (r : LinkRow). count_at records r.link) Shown
-        (λ e f r i j. same_link K F e f i.0 j.0 (i.1 ∙ sym j.1)) (λ e r i. le_of_eq i.2)
-        (entries_of K es x q) rows (apart_kept test es (apart_from link_of es (subst Apart F.numbers F.unlike)))
-        (λ e i.
-        let k = shown.entries e i in
-        let there = (from_kept test es e i).1 in
-        (k.0, k.1, (there, sym k.4, sym (ap (count_at records) k.4 ∙ count_is e there)))))
-
   -- the total of a known word and a relation, over the present triples of the table, is that over the entries
   pub same_total : (x : List S) (q a : ℕ) → eqb q 0 ≡ false → number_in K l x ≡ Some a → total_of eqb (present_in t records) (unwrap_or (number_in K l x) 0) q ≡ total_of (same_word K) (map counted es) x q
   same_total x zero a some number = absurd (eqb-false 0 0 some refl)
   same_total x (suc q) a some number =
-      sym (rows_total t records (unwrap_or (number_in K l x) 0) (suc q)) ∙ same_sums x (suc q) a number ∙ sym (total_entries K es x (suc q))
+      sym (rows_total t records (unwrap_or (number_in K l x) 0) (suc q)) ∙ same_sums K F x (suc q) a number (λ r. count_at records r.link) (λ e. e.kept.count) (λ r e i z. ap (count_at records) z ∙ count_is e i) ∙ sym (total_entries K es x (suc q))
 
 -- a sound tally counts at least 1
 sound_some : (tally : Tally) → sound_tally tally ≡ true → 1 ≤ tally.count
