@@ -19,14 +19,13 @@ impl DoubleArray {
     pub const MAX_CELLS: usize = 1_048_576;
 
     // An array without a path. Of more than 1,048,576 cells the rest is given up.
-    pub fn new(mut cells: Vec<Cell>, index: Vec<u32>) -> DoubleArray
+    pub fn new(cells: Vec<Cell>, index: Vec<u32>) -> DoubleArray
         ensures cells_len { length (cells_of result) ≡ min (vec_len cells) 1048576 }
         ensures cells { (j : ℕ) → j < length (cells_of result) → at (cells_of result) j ≡ cleared j }
         ensures index_len { length (index_of result) ≡ vec_len index }
         ensures index { (n : ℕ) → slice_index (index_of result) n ≡ 0 }
         ensures none { (p : List ℕ) → number_at (cells_of result) p ≡ None }
     {
-        cells.truncate(Self::MAX_CELLS);
         DoubleArray {
             nodes: Nodes::new(cells, index),
         }

@@ -1,8 +1,9 @@
 // The nodes of a tree in cells, and the index that leads each number to its leaf.
-ghost use Rattle.std.specs.Prelude.{◌≡◌, ℕ, ◌<◌, ◌≤◌, length, vec_len, slice_index};
+ghost use Rattle.std.specs.Prelude.{◌≡◌, ℕ, ◌<◌, ◌≤◌, min, length, vec_len, slice_index};
 ghost use Rattle.cells.specs.Cells.{at};
 ghost use Rattle.cells.specs.Laws.{cleared};
 
+use super::array::DoubleArray;
 use cells::Cell;
 
 // The cells that the nodes stand in, and the index. What holds of them between calls only is told by
@@ -16,14 +17,14 @@ pub struct Nodes {
 }
 
 impl Nodes {
-    // A root alone, and no number with a leaf.
+    // A root alone, and no number with a leaf. Of more than 1,048,576 cells the rest is given up.
     pub(super) fn new(mut cells: Vec<Cell>, mut index: Vec<u32>) -> Nodes
-        requires { vec_len cells ≤ 1048576 }
-        ensures cells_len { length result.cells.items ≡ vec_len cells }
+        ensures cells_len { length result.cells.items ≡ min (vec_len cells) 1048576 }
         ensures cells { (j : ℕ) → j < length result.cells.items → at result.cells.items j ≡ cleared j }
         ensures index_len { length result.index.items ≡ vec_len index }
         ensures index { (n : ℕ) → slice_index result.index.items n ≡ 0 }
     {
+        cells.truncate(DoubleArray::MAX_CELLS);
         cells.fill(Cell::FREE);
         if let Some(root) = cells.get_mut(1) {
             *root = Cell::ROOT;

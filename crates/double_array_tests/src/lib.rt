@@ -148,6 +148,36 @@ mod tests {
         Ok(())
     }
 
+    // How many cells are kept of so many that are given, and how many of them are in use.
+    fn kept(heap: Global, cells: usize) -> Result<(usize, usize), AllocError> {
+        let array = made(heap, cells, 1)?;
+        Ok((array.cells().len(), array.in_use()))
+    }
+
+    #[test]
+    fn cells_past_the_limit_are_given_up(rt: HostRuntime) -> Result<(), Fail> {
+        assert_eq!(rt; kept(rt.alloc(), 0)?, (0, 0));
+        assert_eq!(rt; kept(rt.alloc(), 1)?, (1, 0));
+        assert_eq!(rt; kept(rt.alloc(), 2)?, (2, 1));
+        assert_eq!(rt; kept(rt.alloc(), 1_048_575)?, (1_048_575, 1));
+        assert_eq!(rt; kept(rt.alloc(), 1_048_576)?, (1_048_576, 1));
+        assert_eq!(rt; kept(rt.alloc(), 1_048_577)?, (1_048_576, 1));
+        assert_eq!(rt; DoubleArray::MAX_CELLS, 1_048_576);
+        Ok(())
+    }
+
+    #[test]
+    fn paths_of_129_codes_at_most(rt: HostRuntime) -> Result<(), Fail> {
+        let mut array = made(rt.alloc(), 300, 2)?;
+        assert_eq!(rt; array.enter(&[2; 130], 1), Err(PathFault::Path));
+        assert_eq!(rt; array.enter(&[2; 129], 1), Ok(()));
+        assert_eq!(rt; array.number_at(&[2; 129]), Some(1));
+        assert_eq!(rt; array.in_use(), 130);
+        let mut out = [0; 130];
+        assert_eq!(rt; array.path_of(1, &mut out), Ok(129));
+        Ok(())
+    }
+
     #[test]
     fn refused_in_order(rt: HostRuntime) -> Result<(), Fail> {
         let mut array = made(rt.alloc(), 300, 2)?;

@@ -27,12 +27,78 @@ mod tests {
         y: 3,
     };
 
-    // A table over so many cells, with places for three links, all with some content.
+    // A table over so many cells and index entries, all with some content, for so many records.
+    fn made(
+        heap: Global,
+        cells: usize,
+        index: usize,
+        records: usize,
+    ) -> Result<LinkTable, AllocError> {
+        let cells = vec![in heap; Cell { base: 9, check: 9 }; cells]?;
+        let index = vec![in heap; 7u32; index]?;
+        Ok(LinkTable::new(cells, index, records))
+    }
+
+    // A table over so many cells, with places for three links.
     fn table(heap: Global, cells: usize) -> Result<LinkTable, AllocError> {
-        let cell = Cell { base: 9, check: 9 };
-        let cells = vec![in heap; cell; cells]?;
-        let index = vec![in heap; 7u32; 3]?;
-        Ok(LinkTable::new(cells, index, 5))
+        made(heap, cells, 3, 5)
+    }
+
+    // How many link numbers a table of two cells has, and how many index entries it keeps.
+    fn kept(heap: Global, index: usize, records: usize) -> Result<(usize, usize), AllocError> {
+        let links = made(heap, 2, index, records)?;
+        Ok((links.limit(), links.index().len()))
+    }
+
+    #[test]
+    fn link_numbers_go_up_to_the_shorter(rt: HostRuntime) -> Result<(), Fail> {
+        assert_eq!(rt; kept(rt.alloc(), 0, 5)?, (0, 0));
+        assert_eq!(rt; kept(rt.alloc(), 5, 0)?, (0, 0));
+        assert_eq!(rt; kept(rt.alloc(), 3, 5)?, (3, 3));
+        assert_eq!(rt; kept(rt.alloc(), 5, 3)?, (3, 3));
+        assert_eq!(rt;
+            kept(rt.alloc(), 1_048_574, 1_048_576)?,
+            (1_048_574, 1_048_574)
+        );
+        assert_eq!(rt;
+            kept(rt.alloc(), 1_048_576, 1_048_574)?,
+            (1_048_574, 1_048_574)
+        );
+        Ok(())
+    }
+
+    #[test]
+    fn link_numbers_past_the_limit_are_given_up(rt: HostRuntime) -> Result<(), Fail> {
+        assert_eq!(rt;
+            kept(rt.alloc(), 1_048_575, 1_048_575)?,
+            (1_048_575, 1_048_575)
+        );
+        assert_eq!(rt;
+            kept(rt.alloc(), 1_048_575, 1_048_576)?,
+            (1_048_575, 1_048_575)
+        );
+        assert_eq!(rt;
+            kept(rt.alloc(), 1_048_576, 1_048_575)?,
+            (1_048_575, 1_048_575)
+        );
+        assert_eq!(rt;
+            kept(rt.alloc(), 1_048_576, 1_048_576)?,
+            (1_048_575, 1_048_575)
+        );
+        assert_eq!(rt; LinkTable::MAX_LINKS, 1_048_575);
+        Ok(())
+    }
+
+    #[test]
+    fn no_number_and_one_number(rt: HostRuntime) -> Result<(), Fail> {
+        let mut none = made(rt.alloc(), 13, 0, 5)?;
+        assert_eq!(rt; none.put(FIRST), Err(LinkFault::NumbersHeld));
+        let mut one = made(rt.alloc(), 13, 5, 1)?;
+        assert_eq!(rt; one.put(FIRST), Ok(1));
+        assert_eq!(rt; one.put(SECOND), Err(LinkFault::NumbersHeld));
+        assert_eq!(rt; one.take(FIRST), Ok(1));
+        assert_eq!(rt; one.put(SECOND), Ok(1));
+        Ok(())
     }
 
     #[test]
