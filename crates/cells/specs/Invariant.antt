@@ -1,4 +1,4 @@
--- What holds of the cells and the index between operations. Each is a proposition, to be carried by the struct that owns them.
+-- What holds of the cells and the index between operations. All of it is one proposition, which the struct that owns them carries.
 -- An array of fewer than two cells has no cell in use: Reached says so.
 use Rattle.std.specs.Prelude.{◌≡◌, ℕ, ◌<◌, true, ◌||◌, List, [], length, pos, ◌≢◌}
 use Rattle.cells.specs.declared.Cell.{Cell}

@@ -6,7 +6,6 @@ pub mod Turning
 pub mod Giving
 pub mod Climbs
 pub mod Uses
-pub mod Fields
 pub mod Follows
 pub mod Growing
 pub mod Refusals

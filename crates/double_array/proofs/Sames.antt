@@ -4,8 +4,7 @@ use mathlib.Core.HLevel.{is_prop→PathP}
 use denote.Struct.Props.{props}
 use Rattle.cells.specs.contracts.Cell.{the_row as cell_row}
 use Rattle.cells.specs.declared.Cell.{Cell}
-use Rattle.cells.specs.Index.{Leads, Entered}
-use Rattle.cells.specs.Invariant.{Rooted, Bare, Blank, Reached, Ended}
+use Rattle.cells.specs.Invariant.{Sound}
 use Rattle.refusal.specs.declared.PathFault.{PathFault}
 use Rattle.double_array.specs.Entries.{Entry}
 use Rattle.double_array.specs.Outcomes.{Taken}
@@ -15,13 +14,7 @@ use Rattle.double_array.specs.declared.array.DoubleArray.{DoubleArray}
 pub same_array : (d e : DoubleArray) → d.nodes ≡ e.nodes → d ≡ e
 same_array d e p = λ j. record {
   nodes = p j;
-  rooted = is_prop→PathP (λ k. Rooted (vec_items (p k).cells)) (λ k. hlevel props) d.rooted e.rooted j;
-  bare = is_prop→PathP (λ k. Bare (vec_items (p k).cells)) (λ k. hlevel props) d.bare e.bare j;
-  blank = is_prop→PathP (λ k. Blank (vec_items (p k).cells)) (λ k. hlevel (props, cell_row.coded)) d.blank e.blank j;
-  reached = is_prop→PathP (λ k. Reached (vec_items (p k).cells)) (λ k. hlevel props) d.reached e.reached j;
-  ended = is_prop→PathP (λ k. Ended (vec_items (p k).cells)) (λ k. hlevel props) d.ended e.ended j;
-  leads = is_prop→PathP (λ k. Leads (vec_items (p k).cells) (vec_items (p k).index)) (λ k. hlevel props) d.leads e.leads j;
-  entered = is_prop→PathP (λ k. Entered (vec_items (p k).cells) (vec_items (p k).index)) (λ k. hlevel props) d.entered e.entered j;
+  sound = is_prop→PathP (λ k. Sound (vec_items (p k).cells) (vec_items (p k).index)) (λ k. hlevel (props, cell_row.coded)) d.sound e.sound j;
 }
 
 -- a refused entry leaves the cells and the index as they were

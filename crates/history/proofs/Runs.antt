@@ -13,7 +13,6 @@ use Rattle.cells.proofs.Basics.{some_is, some_same}
 use Rattle.cells.proofs.Tallies.{counting}
 use Rattle.double_array.specs.Spellings.{is_known, path_of}
 use Rattle.double_array.specs.Views.{cells_of, index_of}
-use Rattle.double_array.proofs.Fields.{sound_from}
 use Rattle.link_table.specs.Codes.{path_of_triple, triple_of}
 use Rattle.link_table.specs.Tables.{found, coded, limit, all_held}
 use Rattle.link_table.specs.declared.table.LinkTable.{LinkTable}
@@ -119,7 +118,7 @@ module _ {S L R : Type 0} (K : Kit S L R) {es : List (Entry S R)} {us : List ℕ
   -- the cells in use are one more than the different beginnings of the codes
   in_use_of : 2 ≤ length (cells_of t.array) → in_use (cells_of t.array) ≡ 1 + length (beginnings (map (code_in K l) es))
   in_use_of two =
-      counting (cells_of t.array) (index_of t.array) (map path_of_labels (map (code_in K l) es)) (omega arith) (sound_from t.array) holds_of
+      counting (cells_of t.array) (index_of t.array) (map path_of_labels (map (code_in K l) es)) (omega arith) t.array.sound holds_of
       ∙ ap (λ (n : ℕ). 1 + n) (as_many_beginnings (map (code_in K l) es))
 
   -- reading is accepted exactly of the entries' numbers

@@ -29,7 +29,6 @@ use Rattle.double_array.specs.Spellings.{is_known, path_of, unwritten}
 use Rattle.double_array.specs.Views.{cells_of, index_of}
 use Rattle.double_array.specs.declared.array.DoubleArray.{DoubleArray}
 use Rattle.double_array.proofs.Blocks.{Kind, unblocked}
-use Rattle.double_array.proofs.Fields.{sound_from}
 use Rattle.double_array.proofs.Refusals.{judged_by}
 use Rattle.double_array.proofs.Spells.{named_of}
 use Rattle.link_table.specs.Codes.{path_of_triple, triple_of, is_triple_path, Triples}
@@ -69,7 +68,7 @@ module _ (s : LinkTable) where
   to_triple t u e =
       let cs = cells_of s.array in
       let is = index_of s.array in
-      let k = (named_of cs is (sound_from s.array) u).only (path_of_triple t) e (number_high cs (length is) (path_of_triple t) u s.numbered e) in
+      let k = (named_of cs is s.array.sound u).only (path_of_triple t) e (number_high cs (length is) (path_of_triple t) u s.numbered e) in
       cond-true (is_known is u) (Some (triple_of (path_of cs is u))) None k.0 ∙ ap (λ (p : List ℕ). Some (triple_of p)) k.1 ∙ ap (λ (q : Triple). Some q) (triple_back t)
 
   to_number : (t : Triple) (u : ℕ) → coded s u ≡ Some t → found s t ≡ Some u
@@ -80,7 +79,7 @@ module _ (s : LinkTable) where
       ⊎_elim
       (λ known.
       let same : triple_of p ≡ t = some_same (triple_of p) t (sym (cond-true (is_known is u) (Some (triple_of p)) None known) ∙ e) in
-      let has = (named_of cs is (sound_from s.array) u).held known in
+      let has = (named_of cs is s.array.sound u).held known in
       ap (number_at cs) (ap path_of_triple (sym same) ∙ held_path s p u has) ∙ has)
       (λ unknown. absurd (no_some t (sym (cond-false (is_known is u) (Some (triple_of p)) None unknown) ∙ e)))
       (cases_Bool (is_known is u))
@@ -98,7 +97,7 @@ module _ (s : LinkTable) where
   known_within u known =
       let cs = cells_of s.array in
       let is = index_of s.array in
-      let has = (named_of cs is (sound_from s.array) u).held known in
+      let has = (named_of cs is s.array.sound u).held known in
       (number_low cs (path_of cs is u) u has, number_high cs (limit s) (path_of cs is u) u s.numbered has)
 
   pub lawful : Lawful s
@@ -159,7 +158,7 @@ module _ (s : LinkTable) (u : ℕ) where
       (cases_Bool (is_known is u))
 
   pub path_number : is_known (index_of s.array) u ≡ true → number_at (cells_of s.array) (path_of (cells_of s.array) (index_of s.array) u) ≡ Some u
-  path_number known = (named_of (cells_of s.array) (index_of s.array) (sound_from s.array) u).held known
+  path_number known = (named_of (cells_of s.array) (index_of s.array) s.array.sound u).held known
 
   pub path_five : is_known (index_of s.array) u ≡ true → is_triple_path (path_of (cells_of s.array) (index_of s.array) u) ≡ true
   path_five known = s.triples (path_of (cells_of s.array) (index_of s.array) u) (ap is_some (path_number known))
@@ -242,7 +241,7 @@ module _ (s : LinkTable) (triple : Triple) (place : ℕ) (codes : all_codes (pat
   judged =
       judged_by (cells_of s.array) (index_of s.array) (path_of_triple triple) (place + 1)
       (and_from (ltb 0 (length (path_of_triple triple)) && ltb (length (path_of_triple triple)) 130) (all_codes (path_of_triple triple)) refl codes) open_number
-      (unblocked (cells_of s.array) (index_of s.array) (sound_from s.array) Five (fives s) (path_of_triple triple) codes (five_long (path_of_triple triple) (triple_five triple)) none)
+      (unblocked (cells_of s.array) (index_of s.array) s.array.sound Five (fives s) (path_of_triple triple) codes (five_long (path_of_triple triple) (triple_five triple)) none)
       (enter (cells_of s.array) (index_of s.array) (path_of_triple triple) (place + 1 - 1)) refl
 
   -- the refusal by whether there is a place
@@ -281,7 +280,7 @@ module _ (s : LinkTable) (triple : Triple) (place : ℕ) (codes : all_codes (pat
 
     put_held : length (held (index_of d)) ≡ length (held (index_of s.array)) + 1
     put_held =
-        held_more (cells_of s.array) (cells_of d) (index_of s.array) (index_of d) (path_of_triple triple) (place + 1) (sound_from s.array) (sound_from d) s.numbered put_numbered long none added
+        held_more (cells_of s.array) (cells_of d) (index_of s.array) (index_of d) (path_of_triple triple) (place + 1) s.array.sound d.sound s.numbered put_numbered long none added
 
     pub put_fields : Fields d (s.count + 1)
     put_fields = record { few = omega (arith, s.few); triples = put_triples; numbered = put_numbered; counted = omega (arith, s.counted, put_held) }
@@ -297,7 +296,7 @@ module _ (s : LinkTable) (triple : Triple) (place : ℕ) (codes : all_codes (pat
       let js = index_of t.array in
       let p = path_of_triple triple in
       let few = put_numbered t.array long added in
-      let here = new_number cs xs is js p (place + 1) (sound_from s.array) (sound_from t.array) s.numbered few long none added in
+      let here = new_number cs xs is js p (place + 1) s.array.sound t.array.sound s.numbered few long none added in
       let others : (q : Triple) → (q ≡ triple → ⊥) → found t q ≡ found s q =
       λ q ne. added (path_of_triple q) ∙ cond-false (same_path (path_of_triple q) p) (Some (place + 1)) (number_at cs (path_of_triple q)) (path_other q triple ne) in
       record {
@@ -305,7 +304,7 @@ module _ (s : LinkTable) (triple : Triple) (place : ℕ) (codes : all_codes (pat
         number_low = omega arith;
         number_high = omega arith;
         number_open = cond-false (is_known is (place + 1)) (Some (triple_of (path_of cs is (place + 1)))) None
-            (known_before cs xs is js p (place + 1) (sound_from s.array) (sound_from t.array) s.numbered few long none added);
+            (known_before cs xs is js p (place + 1) s.array.sound t.array.sound s.numbered few long none added);
         here = here;
         others = others;
         here_coded = (lawful t).to_triple triple (place + 1) here;
@@ -346,11 +345,11 @@ module _ (s : LinkTable) (triple : Triple) (u : ℕ) (has : found s triple ≡ S
 
     pub take_held : length (held (index_of s.array)) ≡ length (held (index_of d)) + 1
     take_held =
-        held_more (cells_of d) (cells_of s.array) (index_of d) (index_of s.array) (path_of_triple triple) u (sound_from d) (sound_from s.array) take_numbered s.numbered (sym long) gone back
+        held_more (cells_of d) (cells_of s.array) (index_of d) (index_of s.array) (path_of_triple triple) u d.sound s.array.sound take_numbered s.numbered (sym long) gone back
 
     take_unknown : is_known (index_of d) u ≡ false
     take_unknown =
-        known_before (cells_of d) (cells_of s.array) (index_of d) (index_of s.array) (path_of_triple triple) u (sound_from d) (sound_from s.array) take_numbered s.numbered (sym long) gone back
+        known_before (cells_of d) (cells_of s.array) (index_of d) (index_of s.array) (path_of_triple triple) u d.sound s.array.sound take_numbered s.numbered (sym long) gone back
 
     pub take_fields : Fields d (s.count - 1)
     take_fields = record { few = omega (arith, s.few); triples = take_triples; numbered = take_numbered; counted = omega (arith, s.counted, take_held) }

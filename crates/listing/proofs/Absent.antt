@@ -6,7 +6,6 @@ use Rattle.cells.specs.Cells.{path_of_labels}
 use Rattle.cells.specs.Trees.{In}
 use Rattle.cells.specs.Walking.{cell_at, number_at}
 use Rattle.double_array.specs.Views.{cells_of, index_of}
-use Rattle.double_array.proofs.Fields.{sound_from}
 use Rattle.subtrie.specs.Below.{numbers_from}
 use Rattle.subtrie.proofs.Absent.{numbers_none, numbers_few}
 use Rattle.subtrie.proofs.Listings.{listed, members}
@@ -30,7 +29,7 @@ module _ (t : LinkTable) where
   none_held p r e (Some u) is =
       let cs = cells_of t.array in
       let ns = numbers_from cs p in
-      let there = (members cs p ns (listed cs (index_of t.array) (sound_from t.array) p)).all r u is in
+      let there = (members cs p ns (listed cs (index_of t.array) t.array.sound p)).all r u is in
       absurd (subst (λ (l : List ℕ). In l u) (none_below cs p e) there)
 
   pub no_number : (p r : List ℕ) → false ≡ leads_on (cells_of t.array) p → number_at (cells_of t.array) (p ++ r) ≡ None

@@ -23,7 +23,6 @@ use Rattle.cells.proofs.Climbs.{number_held, held_number, number_positive, reach
 use Rattle.double_array.specs.Entries.{is_path, is_open, is_new, no_place, refusal}
 use Rattle.double_array.specs.Spellings.{is_known, unwritten}
 use Rattle.double_array.specs.Views.{cells_of, index_of}
-use Rattle.double_array.proofs.Fields.{sound_from}
 use Rattle.double_array.proofs.Blocks.{Kind, unblocked}
 use Rattle.double_array.proofs.Refusals.{judged_by}
 use Rattle.trie_list.specs.Paths.{path_of, labels_of, ends_once, word_path}
@@ -35,7 +34,7 @@ use Rattle.trie_list.proofs.RollsLemmas.{Listed, path_number, number_path, path_
 
 pub listed : (s : TrieList) → Listed (cells_of s.array) (index_of s.array) s.count
 listed s = record {
-  sound = sound_from s.array;
+  sound = s.array.sound;
   within = s.within;
   few = omega (arith, s.within, s.few);
   numbered = s.numbered;

@@ -1,5 +1,4 @@
 use Rattle.double_array.specs.Views.{cells_of, index_of}
-use Rattle.double_array.proofs.Fields.{fields, sound_from}
 use Rattle.double_array.proofs.Buffers.{same_nodes}
 use Rattle.double_array.proofs.Changes.{entry_sound, entry_added}
 use Rattle.double_array.proofs.Sames.{same_array, entry_same}
@@ -10,7 +9,7 @@ invariant_of-self c =
     let d = c.args.self.now in
     let xs = c.enter.new.self.cells.items in
     let js = c.enter.new.self.index.items in
-    fields xs js (entry_sound (cells_of d) (index_of d) c.args.path.now c.args.number xs js (sound_from d) c.enter.result c.enter.ensures.cells)
+    record { sound = entry_sound (cells_of d) (index_of d) c.args.path.now c.args.number xs js d.sound c.enter.result c.enter.ensures.cells }
 
 pub returns : goal.returns
 returns c =
@@ -25,6 +24,6 @@ returns c =
     record {
       cells = done;
       sizes = kept.2;
-      paths = entry_added (cells_of d) (index_of d) p u xs js (sound_from d) c.enter.result done;
+      paths = entry_added (cells_of d) (index_of d) p u xs js d.sound c.enter.result done;
       same = entry_same (cells_of d) (index_of d) p u c.enter.result xs js _ (λ e f. same_array _ d (same_nodes d.nodes n kept e f)) done;
     }

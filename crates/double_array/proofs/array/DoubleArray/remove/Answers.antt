@@ -1,7 +1,6 @@
 use Rattle.std.proofs.Common.{arith}
 use Rattle.cells.proofs.Sounds.{tidy_of}
 use Rattle.double_array.specs.Views.{cells_of, index_of}
-use Rattle.double_array.proofs.Fields.{fields, sound_from}
 use Rattle.double_array.proofs.Buffers.{same_nodes}
 use Rattle.double_array.proofs.Growing.{tree_parents}
 use Rattle.double_array.proofs.Changes.{taken_sound, taken_removed}
@@ -11,14 +10,14 @@ use Rattle.double_array.proofs.array.DoubleArray.remove.Goals as goal
 pub take_out-requires : goal.take_out-requires
 take_out-requires c two =
     let d = c.args.self.now in
-    tree_parents (cells_of d) (tidy_of (cells_of d) (index_of d) (sound_from d) two).tree (omega arith)
+    tree_parents (cells_of d) (tidy_of (cells_of d) (index_of d) d.sound two).tree (omega arith)
 
 pub invariant_of-self : goal.invariant_of-self
 invariant_of-self c =
     let d = c.args.self.now in
     let xs = c.take_out.new.self.cells.items in
     let js = c.take_out.new.self.index.items in
-    fields xs js (taken_sound (cells_of d) (index_of d) c.args.path.now xs js (sound_from d) c.take_out.result c.take_out.ensures.cells)
+    record { sound = taken_sound (cells_of d) (index_of d) c.args.path.now xs js d.sound c.take_out.result c.take_out.ensures.cells }
 
 pub returns : goal.returns
 returns c =
@@ -32,6 +31,6 @@ returns c =
     record {
       cells = done;
       sizes = kept.2;
-      paths = taken_removed (cells_of d) (index_of d) p xs js (sound_from d) c.take_out.result done;
+      paths = taken_removed (cells_of d) (index_of d) p xs js d.sound c.take_out.result done;
       same = taken_same (cells_of d) (index_of d) p c.take_out.result xs js _ (λ e f. same_array _ d (same_nodes d.nodes n kept e f)) done;
     }
