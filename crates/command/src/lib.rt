@@ -14,7 +14,7 @@ ghost use Rattle.command.specs.Commands.{seen, word_fields, pair_fields, count_f
 ghost use Rattle.command.specs.Lines.{OneToOne};
 
 use refusal::Refusal;
-use word_triple::WordTriple;
+use script::WordTriple;
 
 #[cfg(test)]
 mod tests;

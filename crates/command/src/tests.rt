@@ -1,8 +1,8 @@
 // Lines at their limits, and lines that are no command.
 use super::{Command, parse};
 use refusal::Refusal;
+use script::WordTriple;
 use std::process::Abort;
-use word_triple::WordTriple;
 
 // A triple of words as a line has it.
 fn words<'a>(x: &'a [u8], relation: u8, y: &'a [u8]) -> WordTriple<'a, u8> {

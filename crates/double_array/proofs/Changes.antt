@@ -9,8 +9,8 @@ use Rattle.cells.specs.Laws.{Enters}
 use Rattle.cells.proofs.Numbers.{decides_same}
 use Rattle.cells.proofs.Enters.{entering}
 use Rattle.cells.proofs.TakesOut.{taking}
-use Rattle.refusal.specs.declared.PathFault.{PathFault}
-use Rattle.refusal.specs.declared.PathFault.TheVariants as fault
+use Rattle.double_array.specs.declared.faults.PathFault.{PathFault}
+use Rattle.double_array.specs.declared.faults.PathFault.TheVariants as fault
 use Rattle.double_array.specs.Outcomes.{Taken, Removed}
 use Rattle.double_array.specs.Entries.{is_path, is_open, refusal, Entry, Added}
 

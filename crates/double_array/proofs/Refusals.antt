@@ -8,8 +8,8 @@ use Rattle.cells.specs.Cells.{base_of, is_free, is_leaf, child, child_codes, som
 use Rattle.cells.specs.Placing.{Arrays, Lowest, lowest, placed_at, place, then_place, grow, extend, found_or, enter_from, enter}
 use Rattle.cells.proofs.Lowests.{lowest_holds}
 use Rattle.cells.proofs.Sounds.{short_root, short_child}
-use Rattle.refusal.specs.declared.PathFault.{PathFault}
-use Rattle.refusal.specs.declared.PathFault.TheVariants as fault
+use Rattle.double_array.specs.declared.faults.PathFault.{PathFault}
+use Rattle.double_array.specs.declared.faults.PathFault.TheVariants as fault
 use Rattle.double_array.specs.Entries.{Followed, follow, or_stop, is_path, is_open, is_new, no_place, refusal, extended, Entry, Extended}
 use Rattle.double_array.proofs.Giving.{some_yes, some_no}
 use Rattle.double_array.proofs.Follows.{stop}

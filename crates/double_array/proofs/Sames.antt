@@ -5,7 +5,7 @@ use denote.Struct.Props.{props}
 use Rattle.cells.specs.contracts.Cell.{the_row as cell_row}
 use Rattle.cells.specs.declared.Cell.{Cell}
 use Rattle.cells.specs.Invariant.{Sound}
-use Rattle.refusal.specs.declared.PathFault.{PathFault}
+use Rattle.double_array.specs.declared.faults.PathFault.{PathFault}
 use Rattle.double_array.specs.Entries.{Entry}
 use Rattle.double_array.specs.Outcomes.{Taken}
 use Rattle.double_array.specs.declared.array.DoubleArray.{DoubleArray}

@@ -5,8 +5,8 @@ use Rattle.cells.specs.Cells.{is_leaf, child, some_code, all_codes}
 use Rattle.cells.specs.Placing.{Arrays, extend, enter}
 use Rattle.cells.specs.Walking.{number_at}
 use Rattle.cells.specs.Counting.{same_path}
-use Rattle.refusal.specs.declared.PathFault.{PathFault}
-use Rattle.refusal.specs.declared.PathFault.TheVariants as fault
+use Rattle.double_array.specs.declared.faults.PathFault.{PathFault}
+use Rattle.double_array.specs.declared.faults.PathFault.TheVariants as fault
 
 -- a node, and what is left of a path there
 pub record Followed : Type 0 where

@@ -3,8 +3,8 @@ use Rattle.std.specs.Prelude.{◌≡◌, ℕ, ◌-◌, ◌<◌, ◌≤◌, Bool,
 use Rattle.cells.specs.declared.Cell.{Cell}
 use Rattle.cells.specs.Cells.{parent}
 use Rattle.cells.specs.Walking.{number_at, path_to}
-use Rattle.refusal.specs.declared.NumberFault.{NumberFault}
-use Rattle.refusal.specs.declared.NumberFault.TheVariants.{Unknown, Short}
+use Rattle.double_array.specs.declared.faults.NumberFault.{NumberFault}
+use Rattle.double_array.specs.declared.faults.NumberFault.TheVariants.{Unknown, Short}
 
 -- whether the number u has a leaf in the index
 abbrev pub is_known : List ℕ → ℕ → Bool

@@ -10,9 +10,9 @@ ghost use Rattle.double_array.specs.Spellings.{Written, Named};
 ghost use Rattle.double_array.specs.Views.{cells_of, index_of};
 
 use super::array::DoubleArray;
+use super::faults::{NumberFault, PathFault};
 use super::nodes::Nodes;
 use cells::Cell;
-use refusal::{NumberFault, PathFault};
 
 impl DoubleArray {
     // The most cells that an array has.

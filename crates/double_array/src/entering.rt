@@ -8,10 +8,10 @@ ghost use Rattle.double_array.specs.Buffers.{SameBuffers};
 ghost use Rattle.double_array.specs.Outcomes.{Parented};
 ghost use Rattle.double_array.specs.Entries.{follow as followed, is_path, is_open, Entry, Extended};
 
+use super::faults::PathFault;
 use super::nodes::Nodes;
 use super::paths::all_codes;
 use cells::Cell;
-use refusal::PathFault;
 
 // What an entry has done so far: the node that got a child, its base before, how many cells are new, and the last of them.
 #[derive(Clone, Copy)]

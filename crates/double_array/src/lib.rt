@@ -9,10 +9,12 @@ mod array;
 mod calls;
 mod edges;
 mod entering;
+mod faults;
 mod nodes;
 mod paths;
 mod placing;
 mod pruning;
 
 pub use array::DoubleArray;
+pub use faults::{NumberFault, PathFault};
 pub use paths::{label_code, label_of, leaf_number};

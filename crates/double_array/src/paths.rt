@@ -6,8 +6,8 @@ ghost use Rattle.cells.specs.Counting.{in_use};
 ghost use Rattle.double_array.specs.Outcomes.{Upward};
 ghost use Rattle.double_array.specs.Spellings.{is_known, Pointed, Written};
 
+use super::faults::NumberFault;
 use super::nodes::Nodes;
-use refusal::NumberFault;
 
 // Whether it is the code of the end sign, 1, or of a label, 2 to 257.
 fn is_code(code: u16) -> bool

@@ -4,8 +4,7 @@
 #[cfg(test)]
 mod tests {
     use cells::Cell;
-    use double_array::DoubleArray;
-    use refusal::{NumberFault, PathFault};
+    use double_array::{DoubleArray, NumberFault, PathFault};
     use std::alloc::{AllocError, Global};
     use std::test::Fail;
 

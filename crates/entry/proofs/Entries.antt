@@ -2,12 +2,12 @@
 use Rattle.std.proofs.Common.{◌≡◌, ℕ, ◌+◌, ◌≤◌, Bool, true, false, cond, not, ◌&&◌, ltb, List, [], ◌∷◌, ◌++◌, length, is_some, IfOk, Some, None, Ok, Err, Option, Result, sym, refl, ap, ◌∙◌, subst, inl, inr, ⊎_elim, arith}
 use Rattle.std.proofs.lemmas.Bool.{cond-true, cond-false, cases_Bool, lt-ltb, le-ltb}
 use Rattle.refusal.specs.declared.Side.TheVariants.{Neither}
-use Rattle.refusal.specs.declared.ListFault.{ListFault}
-use Rattle.refusal.specs.declared.ListFault.TheVariants.{WordLength as BadLength}
+use Rattle.lexicon.specs.declared.ListFault.{ListFault}
+use Rattle.lexicon.specs.declared.ListFault.TheVariants.{WordLength as BadLength}
 use Rattle.refusal.specs.declared.Refusal.{Refusal}
 use Rattle.refusal.specs.declared.Refusal.TheVariants.{WordLength, NoRoom}
 use Rattle.refusal.specs.Reports.{list_refusal}
-use Rattle.refusal.specs.declared.SpellFault.TheVariants.{WordLength as TooLong}
+use Rattle.script.specs.declared.SpellFault.TheVariants.{WordLength as TooLong}
 use Rattle.script.specs.Words.{word_sized, spelled, spell_answer, WordsApart}
 use Rattle.lexicon.specs.Rolls.{label_sized, number_of}
 use Rattle.lexicon.specs.Answers.{held_or_next, enter_answer, is_new, EnterLeaves}

@@ -1,7 +1,7 @@
 -- What an entry answers and leaves, case by case.
 use Rattle.std.proofs.Common.{◌≡◌, ℕ, ◌+◌, Bool, true, false, not, ◌&&◌, List, [], ◌∷◌, ◌++◌, length, is_some, None, Ok, Err, Option, sym, ap, ◌∙◌, subst}
 use Rattle.std.proofs.lemmas.Bool.{cond-true, and_from, and_right}
-use Rattle.refusal.specs.declared.ListFault.TheVariants.{WordLength, NoRoom}
+use Rattle.lexicon.specs.declared.ListFault.TheVariants.{WordLength, NoRoom}
 use Rattle.lexicon.specs.Rolls.{label_sized, number_of, Lawful}
 use Rattle.lexicon.specs.Answers.{held_or_next, enter_answer, is_new, EnterLeaves}
 

@@ -2,8 +2,8 @@
 use Rattle.std.proofs.Common.{◌≡◌, ℕ, ◌+◌, ◌≤◌, Bool, true, false, cond, List, length, IfOk, Some, None, Ok, Err, Option, Result, sym, refl, ap, ◌∙◌, subst, ⊎_elim, arith}
 use Rattle.std.specs.Option.{ok_or}
 use Rattle.std.proofs.lemmas.Bool.{cond-true, cond-false, cases_Bool, leb-true}
-use Rattle.refusal.specs.declared.ListFault.{ListFault}
-use Rattle.refusal.specs.declared.ListFault.TheVariants.{OutputTooShort, UnknownWord}
+use Rattle.lexicon.specs.declared.ListFault.{ListFault}
+use Rattle.lexicon.specs.declared.ListFault.TheVariants.{OutputTooShort, UnknownWord}
 use Rattle.output.specs.Written.{fits, written}
 use Rattle.lexicon.specs.Rolls.{numbered, word_of}
 use Rattle.lexicon.specs.Answers.{word_answer, word_output}

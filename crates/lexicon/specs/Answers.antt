@@ -1,7 +1,7 @@
 -- What the calls of a word list answer and leave, by its roll.
 use Rattle.std.specs.Prelude.{◌≡◌, ℕ, ◌+◌, Bool, true, false, cond, not, ◌&&◌, List, [], ◌∷◌, ◌++◌, length, is_some, Some, None, Ok, Err, Option, Result}
-use Rattle.refusal.specs.declared.ListFault.{ListFault}
-use Rattle.refusal.specs.declared.ListFault.TheVariants.{WordLength, UnknownWord, NoRoom, OutputTooShort}
+use Rattle.lexicon.specs.declared.ListFault.{ListFault}
+use Rattle.lexicon.specs.declared.ListFault.TheVariants.{WordLength, UnknownWord, NoRoom, OutputTooShort}
 use Rattle.output.specs.Written.{fits, written}
 use Rattle.lexicon.specs.Rolls.{label_sized, number_of, word_of, numbered, Lawful}
 

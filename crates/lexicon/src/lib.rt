@@ -9,10 +9,21 @@ ghost use Rattle.std.specs.Prelude.{◌≡◌, ℕ, ◌≤◌, Bool, ◌&&◌, L
 ghost use Rattle.lexicon.specs.Rolls.{Lawful, label_sized};
 ghost use Rattle.lexicon.specs.Answers.{find_answer, word_answer, word_output, enter_answer, is_new, EnterLeaves};
 
-use refusal::ListFault;
-
 // A list has at most this many words: their numbers, from 1 up, are 16-bit numbers.
 pub const MAX_WORDS: usize = 65_535;
+
+// A call of a word list.
+#[derive(Clone, Copy, PartialEq, Eq, Debug)]
+pub enum ListFault {
+    // The spelling has no label or more than 128: hand in a word of the right length.
+    WordLength,
+    // No word of the list has the number.
+    UnknownWord,
+    // The word is new and the list has no room for it: make a larger list.
+    NoRoom,
+    // The output is shorter than the word: lend one of 128 bytes.
+    OutputTooShort,
+}
 
 pub trait ReadableList {
     // The list's words, each spelled in labels, in the order of their numbers: the roll.

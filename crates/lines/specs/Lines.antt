@@ -3,23 +3,34 @@ use Rattle.std.specs.Prelude.{◌≡◌, ℕ, cond, List, map, take, Some, None,
 use Rattle.refusal.specs.declared.Refusal.{Refusal}
 use Rattle.refusal.specs.declared.Refusal.TheVariants.{MalformedLine}
 use Rattle.refusal.specs.Reports.{report_of}
+use Rattle.script.specs.contracts.alphabets.U8Script.TheImpl.{ghosts as byte_text}
 use Rattle.record.specs.declared.Tally.{Tally}
+use Rattle.record.specs.contracts.TallyRecord.TheImpl.{ghosts as tally_record}
 use Rattle.trie_list.specs.declared.list.TrieList.{TrieList}
+use Rattle.trie_list.specs.contracts.calls.TrieListReadableList.TheImpl.{ghosts as readable}
+use Rattle.trie_list.specs.contracts.calls.TrieListGrowingList.TheImpl.{ghosts as growing}
 use Rattle.listing.specs.declared.row.LinkRow.{LinkRow}
 use Rattle.history.specs.declared.replies.Link.{Link}
 use Rattle.history.specs.declared.replies.Reply.{Reply}
 use Rattle.history.specs.declared.replies.Reply.TheVariants.{Linked, Deleted, Found, Read, Changed, Listed, Counted}
-use Rattle.history.specs.Kits.{State}
+use Rattle.history.specs.Kits.{Kit, Growth, kit_of, State}
 use Rattle.history.specs.Calls.{Call, Steps, find_of, refusal_of_list, rows_in}
 use Rattle.history.specs.Calls as call
 use Rattle.history.specs.Laws.{Onward}
 use Rattle.store.specs.Links.{link_answer}
-use Rattle.stores.specs.Meanings.{trie_tally_kit, trie_growth}
 use Rattle.share.specs.Laws.{ShareLaw}
 use Rattle.share.specs.Shares.{count_at, share_answer}
 use Rattle.command.specs.Commands.{Asked, add, tie, delete, find, share, list}
 use Rattle.line_text.specs.declared.rows.LineRow.{LineRow}
 use Rattle.line_text.specs.Texts.{number_text, three_text, rows_text, report_line}
+
+-- what byte text, a trie list and tallies mean to a store
+abbrev pub trie_tally_kit : Kit ℕ TrieList Tally
+trie_tally_kit = kit_of byte_text readable tally_record
+
+-- how a trie list grows
+abbrev pub trie_growth : Growth TrieList
+trie_growth = record { room = growing.room; enters = growing.enters }
 
 -- the stores that lines work on
 abbrev pub Store : Type 0

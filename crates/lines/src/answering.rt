@@ -14,10 +14,10 @@ use listing::LinkRow;
 use record::Tally;
 use refusal::Refusal;
 use requests::{GrowingRequest, Request, perform_growing};
+use script::WordTriple;
 use share::{count_at, share};
 use store::RelationTable;
 use trie_list::TrieList;
-use word_triple::WordTriple;
 
 // The list, the table and the records are handed on side by side, here and below: a store is no
 // value of its own, and a call takes what it needs of the three.

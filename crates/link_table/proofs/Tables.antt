@@ -7,13 +7,13 @@ use denote.Struct.Props.{props}
 use Rattle.std.specs.List.{range_with_len}
 use Rattle.std.proofs.lemmas.Bool.{both_ways, cases_Bool, cond-true, cond-false, cond_both, and_from, and_right, lt-ltb, le-ltb, eq-eqb}
 use Rattle.std.proofs.lemmas.List.{drop_all}
-use Rattle.refusal.specs.Reports.{triple_path_refusal}
-use Rattle.refusal.specs.declared.PathFault.{PathFault}
-use Rattle.refusal.specs.declared.PathFault.TheVariants.{NoPlace as NoPlaceOfPath}
-use Rattle.refusal.specs.declared.NumberFault.{NumberFault}
-use Rattle.refusal.specs.declared.NumberFault.TheVariants.{Unknown, Short}
-use Rattle.refusal.specs.declared.LinkFault.{LinkFault}
-use Rattle.refusal.specs.declared.LinkFault.TheVariants.{TriplePresent, NoPlace, NumbersHeld}
+use Rattle.link_table.specs.Faults.{link_fault_of}
+use Rattle.double_array.specs.declared.faults.PathFault.{PathFault}
+use Rattle.double_array.specs.declared.faults.PathFault.TheVariants.{NoPlace as NoPlaceOfPath}
+use Rattle.double_array.specs.declared.faults.NumberFault.{NumberFault}
+use Rattle.double_array.specs.declared.faults.NumberFault.TheVariants.{Unknown, Short}
+use Rattle.link_table.specs.declared.faults.LinkFault.{LinkFault}
+use Rattle.link_table.specs.declared.faults.LinkFault.TheVariants.{TriplePresent, NoPlace, NumbersHeld}
 use Rattle.cells.specs.Cells.{all_codes}
 use Rattle.cells.specs.Counting.{same_path}
 use Rattle.cells.specs.Placing.{Arrays, enter}
@@ -257,11 +257,11 @@ module _ (s : LinkTable) (triple : Triple) (place : ℕ) (codes : all_codes (pat
   pub put_accepted : all_held s ≡ false → (xs : Arrays) → enter (cells_of s.array) (index_of s.array) (path_of_triple triple) (place + 1 - 1) ≡ Some xs → put_refusal s triple ≡ None
   put_accepted some xs e = refused_by some true (place_is (Some xs) e)
 
-  pub put_refused : all_held s ≡ false → (f : PathFault) → refusal (cells_of s.array) (index_of s.array) (path_of_triple triple) (place + 1) ≡ Some f → put_refusal s triple ≡ Some (triple_path_refusal f)
+  pub put_refused : all_held s ≡ false → (f : PathFault) → refusal (cells_of s.array) (index_of s.array) (path_of_triple triple) (place + 1) ≡ Some f → put_refusal s triple ≡ Some (link_fault_of f)
   put_refused some f said = by (enter (cells_of s.array) (index_of s.array) (path_of_triple triple) (place + 1 - 1)) refl
     where
-      by : (o : Option Arrays) → enter (cells_of s.array) (index_of s.array) (path_of_triple triple) (place + 1 - 1) ≡ o → put_refusal s triple ≡ Some (triple_path_refusal f)
-      by None e = refused_by some false (place_is None e) ∙ ap (λ (g : PathFault). Some (triple_path_refusal g)) (sym (some_same f NoPlaceOfPath (sym said ∙ judged ∙ ap no_place e)))
+      by : (o : Option Arrays) → enter (cells_of s.array) (index_of s.array) (path_of_triple triple) (place + 1 - 1) ≡ o → put_refusal s triple ≡ Some (link_fault_of f)
+      by None e = refused_by some false (place_is None e) ∙ ap (λ (g : PathFault). Some (link_fault_of g)) (sym (some_same f NoPlaceOfPath (sym said ∙ judged ∙ ap no_place e)))
       by (Some xs) e = absurd (no_some f (sym (judged ∙ ap no_place e) ∙ said))
 
   -- the array after it was entered

@@ -1,3 +1,4 @@
 pub mod Codes
+pub mod Faults
 pub mod Numbers
 pub mod Tables

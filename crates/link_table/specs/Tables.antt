@@ -1,7 +1,7 @@
 -- What a link table means, and what its calls leave.
 use Rattle.std.specs.Prelude.{◌≡◌, ℕ, ◌+◌, ◌-◌, ◌<◌, ◌≤◌, min, Bool, true, cond, List, length, is_some, Some, None, Ok, Err, Option, Result, ◌==◌, ◌≢◌, slice_index}
-use Rattle.refusal.specs.declared.LinkFault.{LinkFault}
-use Rattle.refusal.specs.declared.LinkFault.TheVariants.{TriplePresent, TripleAbsent, NoPlace, NumbersHeld}
+use Rattle.link_table.specs.declared.faults.LinkFault.{LinkFault}
+use Rattle.link_table.specs.declared.faults.LinkFault.TheVariants.{TriplePresent, TripleAbsent, NoPlace, NumbersHeld}
 use Rattle.cells.specs.Cells.{at}
 use Rattle.cells.specs.Laws.{cleared}
 use Rattle.cells.specs.Placing.{enter}

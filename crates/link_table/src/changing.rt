@@ -3,12 +3,12 @@ ghost use Rattle.std.specs.Prelude.{vec_len};
 ghost use Rattle.link_table.specs.Tables.{Made, Puts, Takes};
 
 use super::codes::write_code;
+use super::faults::LinkFault;
 use super::numbers::vacant;
 use super::table::LinkTable;
 use super::triple::Triple;
 use cells::Cell;
 use double_array::DoubleArray;
-use refusal::LinkFault;
 
 impl LinkTable {
     // The most link numbers that a table hands out.

@@ -7,10 +7,12 @@
 
 mod changing;
 mod codes;
+mod faults;
 mod numbers;
 mod reading;
 mod table;
 mod triple;
 
+pub use faults::LinkFault;
 pub use table::LinkTable;
 pub use triple::Triple;

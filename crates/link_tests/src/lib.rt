@@ -4,8 +4,7 @@
 #[cfg(test)]
 mod tests {
     use cells::Cell;
-    use link_table::{LinkTable, Triple};
-    use refusal::LinkFault;
+    use link_table::{LinkFault, LinkTable, Triple};
     use std::alloc::{AllocError, Global};
     use std::test::Fail;
 

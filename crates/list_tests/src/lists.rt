@@ -1,7 +1,6 @@
 // The plain list on bad input and at its limits.
-use lexicon::{GrowingList, ReadableList};
+use lexicon::{GrowingList, ListFault, ReadableList};
 use plain_list::PlainList;
-use refusal::ListFault;
 use std::alloc::{AllocError, AllocGlobal, Global};
 use std::process::Abort;
 use std::test::Fail;

@@ -1,6 +1,7 @@
 // Spellings, and the numbers of refusals.
-use refusal::{ListFault, Refusal, Side, SpellFault};
-use script::{MorphemeClass, MorphemeSign, Script, spell_word};
+use refusal::{Refusal, Side};
+use lexicon::ListFault;
+use script::{MorphemeClass, MorphemeSign, Script, SpellFault, spell_word};
 use std::process::Abort;
 use std::test::Fail;
 
@@ -65,15 +66,15 @@ fn refusals_are_reported(rt: HostRuntime) -> Result<(), Fail> {
         assert!(rt; shown.as_str() == text);
     }
     assert_eq!(rt;
-        SpellFault::WordLength.at(Side::Second),
+        Refusal::of_spelling(SpellFault::WordLength, Side::Second),
         Refusal::WordLength(Side::Second)
     );
     assert_eq!(rt;
-        ListFault::NoRoom.at(Side::First),
+        Refusal::of_list(ListFault::NoRoom, Side::First),
         Refusal::NoRoom(Side::First)
     );
     assert_eq!(rt;
-        ListFault::OutputTooShort.at(Side::First),
+        Refusal::of_list(ListFault::OutputTooShort, Side::First),
         Refusal::OutputTooShort
     );
     Ok(())

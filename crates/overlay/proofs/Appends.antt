@@ -2,8 +2,8 @@
 use Rattle.std.proofs.Common.{◌≡◌, ℕ, suc, ◌+◌, ◌<◌, ◌≤◌, Bool, true, false, cond, List, [], ◌∷◌, ◌++◌, length, Some, None, Ok, Err, Option, Result, sym, refl, ap, ◌∙◌, subst, ⊎_elim, arith, length-append, append_assoc}
 use Rattle.std.specs.Str.{bytes_eq}
 use Rattle.std.proofs.lemmas.Bool.{cond-true, cond-false, cases_Bool}
-use Rattle.refusal.specs.declared.ListFault.{ListFault}
-use Rattle.refusal.specs.declared.ListFault.TheVariants.{WordLength}
+use Rattle.lexicon.specs.declared.ListFault.{ListFault}
+use Rattle.lexicon.specs.declared.ListFault.TheVariants.{WordLength}
 use Rattle.lexicon.specs.Rolls.{label_sized, number_from, number_of, Lawful}
 use Rattle.lexicon.specs.Answers.{held_or_next, find_answer, enter_answer, is_new, EnterLeaves}
 use Rattle.lexicon.proofs.Numbers.{number_some, none_parts, lawful_push}

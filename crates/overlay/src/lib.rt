@@ -12,8 +12,7 @@ mod tests;
 ghost use Rattle.std.specs.Prelude.{◌≡◌, ℕ, ◌+◌, ◌≤◌, ◌++◌, List, [], cond, length, Some, None, ◌&&◌, ◌==◌, nat_lt};
 ghost use Rattle.lexicon.specs.Rolls.{Lawful};
 
-use lexicon::{GrowingList, ReadableList};
-use refusal::ListFault;
+use lexicon::{GrowingList, ListFault, ReadableList};
 use std::marker::Model;
 
 // A list has at most as many words as a 16-bit number counts.

@@ -1,8 +1,7 @@
 // A plain list above a plain list.
 use super::Overlay;
-use lexicon::{GrowingList, ReadableList};
+use lexicon::{GrowingList, ListFault, ReadableList};
 use plain_list::PlainList;
-use refusal::ListFault;
 use std::test::Fail;
 
 #[test]

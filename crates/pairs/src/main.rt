@@ -13,10 +13,9 @@ use record::Tally;
 use refusal::Refusal;
 use requests::{GrowingRequest, Request, perform_growing};
 use std::io;
+use script::WordTriple;
 use store::RelationTable;
-use stores::new_store;
 use trie_list::TrieList;
-use word_triple::WordTriple;
 
 // How many link numbers there are.
 const LINKS: usize = 16;
@@ -175,7 +174,7 @@ fn main(rt: HostRuntime) -> anyhow::Result<()> {
     let list = TrieList::new(vec![in heap; Cell::FREE; 1024]?, vec![in heap; 0u32; 64]?);
     let records = vec![in heap; Tally { count: 0 }; LINKS]?;
     let cells = vec![in heap; Cell::FREE; 600]?;
-    let table = new_store::<u8, TrieList, Tally>(
+    let table = RelationTable::new::<u8, TrieList, Tally>(
         &list,
         records.as_slice(),
         cells,

@@ -6,8 +6,7 @@ ghost use Rattle.plain_list.specs.Plain.{roll_of, room_of, Made, Appended};
 
 use super::list::PlainList;
 use super::search;
-use lexicon::{GrowingList, MAX_WORDS, ReadableList, has_label_size, is_numbered};
-use refusal::ListFault;
+use lexicon::{GrowingList, ListFault, MAX_WORDS, ReadableList, has_label_size, is_numbered};
 
 // A word of 128 labels for each number from 0 to 65,535.
 const MAX_BYTES: usize = 8_388_608;

@@ -1,4 +1,4 @@
--- The number, the layer and the side of each refusal, and the refusal that each layer's fault leads to.
+-- The number, the layer and the side of each refusal, and the refusal that a fault of spelling, of a list or of the link table leads to.
 use Rattle.std.specs.Prelude.{ℕ, List, ◌++◌, codes, decimal}
 use Rattle.refusal.specs.declared.Layer.{Layer}
 use Rattle.refusal.specs.declared.Layer.TheVariants.{Call, List as WordList, Table}
@@ -7,16 +7,12 @@ use Rattle.refusal.specs.declared.Side.TheVariants.{Neither, First, Second}
 use Rattle.refusal.specs.declared.Refusal.{Refusal}
 use Rattle.refusal.specs.declared.Refusal.TheVariants.{WordLength, RelationZero, RecordUnsound, UnknownWord, NoRoom, TriplePresent, TripleAbsent, NoPlace, NumbersHeld, UnknownLink, OutputTooShort, MalformedLine}
 use Rattle.refusal.specs.declared.Report.{Report}
-use Rattle.refusal.specs.declared.SpellFault.{SpellFault}
-use Rattle.refusal.specs.declared.SpellFault.TheVariants.{WordLength as NotSpelled}
-use Rattle.refusal.specs.declared.PathFault.{PathFault}
-use Rattle.refusal.specs.declared.PathFault.TheVariants.{Path, Number, Blocked, NoPlace as NotPlaced}
-use Rattle.refusal.specs.declared.NumberFault.{NumberFault}
-use Rattle.refusal.specs.declared.NumberFault.TheVariants.{Unknown, Short as TooShort}
-use Rattle.refusal.specs.declared.LinkFault.{LinkFault}
-use Rattle.refusal.specs.declared.LinkFault.TheVariants.{TriplePresent as IsPresent, TripleAbsent as IsAbsent, NoPlace as NoCell, NumbersHeld as AllHeld}
-use Rattle.refusal.specs.declared.ListFault.{ListFault}
-use Rattle.refusal.specs.declared.ListFault.TheVariants.{WordLength as NotSized, UnknownWord as NotHeld, NoRoom as Full, OutputTooShort as Short}
+use Rattle.script.specs.declared.SpellFault.{SpellFault}
+use Rattle.script.specs.declared.SpellFault.TheVariants.{WordLength as NotSpelled}
+use Rattle.link_table.specs.declared.faults.LinkFault.{LinkFault}
+use Rattle.link_table.specs.declared.faults.LinkFault.TheVariants.{TriplePresent as IsPresent, TripleAbsent as IsAbsent, NoPlace as NoCell, NumbersHeld as AllHeld}
+use Rattle.lexicon.specs.declared.ListFault.{ListFault}
+use Rattle.lexicon.specs.declared.ListFault.TheVariants.{WordLength as NotSized, UnknownWord as NotHeld, NoRoom as Full, OutputTooShort as Short}
 
 -- how a refusal is reported: its number, its layer, and the side where a word is meant
 abbrev pub report_of : Refusal → Report
@@ -44,25 +40,6 @@ list_refusal NotHeld side = UnknownWord side
 list_refusal Full side = NoRoom side
 list_refusal Short side = OutputTooShort
 
--- what a refused path means for a word
-abbrev pub path_refusal : PathFault → ListFault
-path_refusal Path = NotSized
-path_refusal Number = Full
-path_refusal Blocked = Full
-path_refusal NotPlaced = Full
-
--- what a refused path means for a triple
-abbrev pub triple_path_refusal : PathFault → LinkFault
-triple_path_refusal Path = NoCell
-triple_path_refusal Number = AllHeld
-triple_path_refusal Blocked = IsPresent
-triple_path_refusal NotPlaced = NoCell
-
--- what a refused number means for a word
-abbrev pub number_refusal : NumberFault → ListFault
-number_refusal Unknown = NotHeld
-number_refusal TooShort = Short
-
 -- what the link table refuses
 abbrev pub link_refusal : LinkFault → Refusal
 link_refusal IsPresent = TriplePresent
@@ -81,6 +58,12 @@ abbrev pub side_number : Side → ℕ
 side_number Neither = 0
 side_number First = 1
 side_number Second = 2
+
+-- a side in words
+abbrev pub side_text : Side → List ℕ
+side_text Neither = codes "the word"
+side_text First = codes "the first word"
+side_text Second = codes "the second word"
 
 -- a report as it is printed: number, layer and side
 abbrev pub report_text : Report → List ℕ

@@ -1,15 +1,19 @@
 // Refusals: what a call says when it does not do what was asked.
 //
-// This crate knows the twelve refusals, each with its number, its layer and its side, and the fault
-// types of the layers that lead to them. It knows nothing of scripts, words, cells or links.
-// The rules stand in docs/REFUSALS.md.
+// This crate knows the twelve refusals, each with its number, its layer and its side, and which fault
+// of spelling, of a word list or of the link table leads to which of them. The layers below know their
+// own faults alone, so that a further refusal changes nothing there. The rules stand in docs/REFUSALS.md.
 #![tactic(auto)]
 
 ghost use Rattle.std.specs.Prelude.{◌≡◌, Some};
 ghost use Rattle.refusal.specs.declared.Side.TheVariants.{Neither};
-ghost use Rattle.refusal.specs.Reports.{report_of, report_text, spell_refusal, list_refusal, path_refusal, triple_path_refusal, number_refusal, link_refusal};
+ghost use Rattle.refusal.specs.Reports.{report_of, report_text, side_text, spell_refusal, list_refusal, link_refusal};
 
+use lexicon::ListFault;
+use link_table::LinkFault;
+use script::SpellFault;
 use std::fmt;
+use thiserror::Error;
 
 // The layer that refuses.
 #[derive(Clone, Copy, PartialEq, Eq, Debug)]
@@ -27,32 +31,57 @@ pub enum Side {
     Second = 2,
 }
 
+// A side in words, as the text of a refusal names it.
+impl fmt::Display for Side {
+    ghost output = { λ side. Some (side_text side) };
+
+    fn fmt<W: fmt::Write>(&self, f: &mut fmt::Formatter<W>) -> fmt::Result {
+        match self {
+            Side::Neither => write!(f, "the word"),
+            Side::First => write!(f, "the first word"),
+            Side::Second => write!(f, "the second word"),
+        }
+    }
+}
+
 // Every reason for which a call of the store, of a list or of a line is refused.
-#[derive(Clone, Copy, PartialEq, Eq, Debug)]
+#[derive(Clone, Copy, PartialEq, Eq, Debug, Error)]
 pub enum Refusal {
     // A word has no symbol or more than 32, or a spelling has no label or more than 128.
+    #[error("{0} is too short or too long: hand in 1 to 32 symbols, or 1 to 128 labels")]
     WordLength(Side),
     // The relation is 0.
+    #[error("the relation is 0: hand in one from 1 to 255")]
     RelationZero,
     // The record is not sound.
+    #[error("the record is not sound: see which records its type lets through")]
     RecordUnsound,
     // The word, or the word number, is not in the list.
+    #[error("{0} is not in the list: add it, or ask for another")]
     UnknownWord(Side),
     // The list has no room for the new word.
+    #[error("the list has no room for {0}: make a larger list")]
     NoRoom(Side),
     // The triple is present already.
+    #[error("the triple is present already: change its record by its link number")]
     TriplePresent,
     // The triple is not present.
+    #[error("the triple is not present: add it first")]
     TripleAbsent,
     // The cells have no place for the triple's code.
+    #[error("the link cells have no place for the triple: make a larger cell array")]
     NoPlace,
     // All link numbers are held.
+    #[error("all link numbers are held: delete a triple, or make a larger index and more records")]
     NumbersHeld,
     // No present triple has the link number.
+    #[error("no present triple has the link number: it was taken back, or never handed out")]
     UnknownLink,
     // The output is too short for the answer.
+    #[error("the output is too short for the answer: lend a longer one")]
     OutputTooShort,
     // The line is no command.
+    #[error("the line is no command: see the line format")]
     MalformedLine,
 }
 
@@ -62,60 +91,6 @@ pub struct Report {
     pub number: u8,
     pub layer: Layer,
     pub side: Side,
-}
-
-// Spelling a word: the word has no symbol or more than 32.
-#[derive(Clone, Copy, PartialEq, Eq, Debug)]
-pub enum SpellFault {
-    WordLength,
-}
-
-// A call of a word list.
-#[derive(Clone, Copy, PartialEq, Eq, Debug)]
-pub enum ListFault {
-    // The spelling has no label or more than 128: hand in a word of the right length.
-    WordLength,
-    // No word of the list has the number.
-    UnknownWord,
-    // The word is new and the list has no room for it: make a larger list.
-    NoRoom,
-    // The output is shorter than the word: lend one of 128 bytes.
-    OutputTooShort,
-}
-
-// A call of the link table.
-#[derive(Clone, Copy, PartialEq, Eq, Debug)]
-pub enum LinkFault {
-    // The triple is present already.
-    TriplePresent,
-    // The triple is not present.
-    TripleAbsent,
-    // The cells have no place for the triple's code: make a larger cell array.
-    NoPlace,
-    // All link numbers are held: delete a triple, or make a larger index and more records.
-    NumbersHeld,
-}
-
-// Entering a path into a double array, in the order in which it is judged.
-#[derive(Clone, Copy, PartialEq, Eq, Debug)]
-pub enum PathFault {
-    // It is empty, longer than 129 codes, or has a code outside 1 to 257.
-    Path,
-    // The number is 0, above 2,147,483,647, or has a leaf already.
-    Number,
-    // The path is held, runs through a leaf, or ends above one.
-    Blocked,
-    // The placing rule finds no place for one of its codes: make a larger array.
-    NoPlace,
-}
-
-// Reading the path of a number of a double array, in the order in which it is judged.
-#[derive(Clone, Copy, PartialEq, Eq, Debug)]
-pub enum NumberFault {
-    // The number has no leaf in the index.
-    Unknown,
-    // The output is shorter than the path: lend one of 129 places.
-    Short,
 }
 
 impl Refusal {
@@ -143,25 +118,21 @@ impl Refusal {
             side,
         }
     }
-}
 
-impl SpellFault {
     // The refusal of a call whose word on that side cannot be spelled.
-    pub fn at(self, side: Side) -> Refusal
-        ensures { result ≡ spell_refusal self side }
+    pub fn of_spelling(fault: SpellFault, side: Side) -> Refusal
+        ensures { result ≡ spell_refusal fault side }
     {
-        match self {
+        match fault {
             SpellFault::WordLength => Refusal::WordLength(side),
         }
     }
-}
 
-impl ListFault {
     // The refusal of a call whose word on that side the list refuses.
-    pub fn at(self, side: Side) -> Refusal
-        ensures { result ≡ list_refusal self side }
+    pub fn of_list(fault: ListFault, side: Side) -> Refusal
+        ensures { result ≡ list_refusal fault side }
     {
-        match self {
+        match fault {
             ListFault::WordLength => Refusal::WordLength(side),
             ListFault::UnknownWord => Refusal::UnknownWord(side),
             ListFault::NoRoom => Refusal::NoRoom(side),
@@ -175,7 +146,7 @@ impl From<SpellFault> for Refusal {
     ghost from_gives = { λ e r. r ≡ spell_refusal e Neither };
 
     fn from(spell_fault: SpellFault) -> Refusal {
-        spell_fault.at(Side::Neither)
+        Refusal::of_spelling(spell_fault, Side::Neither)
     }
 }
 
@@ -183,7 +154,7 @@ impl From<ListFault> for Refusal {
     ghost from_gives = { λ e r. r ≡ list_refusal e Neither };
 
     fn from(list_fault: ListFault) -> Refusal {
-        list_fault.at(Side::Neither)
+        Refusal::of_list(list_fault, Side::Neither)
     }
 }
 
@@ -196,48 +167,6 @@ impl From<LinkFault> for Refusal {
             LinkFault::TripleAbsent => Refusal::TripleAbsent,
             LinkFault::NoPlace => Refusal::NoPlace,
             LinkFault::NumbersHeld => Refusal::NumbersHeld,
-        }
-    }
-}
-
-// A word whose path is refused. A list hands out each number once, and no word's path runs through
-// the end of another, so of a word list only the length and the place are ever refused.
-impl From<PathFault> for ListFault {
-    ghost from_gives = { λ e r. r ≡ path_refusal e };
-
-    fn from(path_fault: PathFault) -> ListFault {
-        match path_fault {
-            PathFault::Path => ListFault::WordLength,
-            PathFault::Number => ListFault::NoRoom,
-            PathFault::Blocked => ListFault::NoRoom,
-            PathFault::NoPlace => ListFault::NoRoom,
-        }
-    }
-}
-
-// A triple whose path is refused. Every code of a triple is a path, a table hands out free numbers only,
-// and no code runs through the end of another, so of a table only the place is ever refused.
-impl From<PathFault> for LinkFault {
-    ghost from_gives = { λ e r. r ≡ triple_path_refusal e };
-
-    fn from(path_fault: PathFault) -> LinkFault {
-        match path_fault {
-            PathFault::Path => LinkFault::NoPlace,
-            PathFault::Number => LinkFault::NumbersHeld,
-            PathFault::Blocked => LinkFault::TriplePresent,
-            PathFault::NoPlace => LinkFault::NoPlace,
-        }
-    }
-}
-
-// A number whose path is not written, as a list refuses the number.
-impl From<NumberFault> for ListFault {
-    ghost from_gives = { λ e r. r ≡ number_refusal e };
-
-    fn from(number_fault: NumberFault) -> ListFault {
-        match number_fault {
-            NumberFault::Unknown => ListFault::UnknownWord,
-            NumberFault::Short => ListFault::OutputTooShort,
         }
     }
 }

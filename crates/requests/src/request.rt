@@ -1,7 +1,7 @@
 // The calls as values, each with its arguments.
 ghost use Rattle.std.specs.Prelude.{◌≡◌};
 
-use word_triple::WordTriple;
+use script::WordTriple;
 
 // Any of the calls but add: these need a list only to read it.
 #[derive(Drop)]

@@ -1,8 +1,8 @@
 -- Words of symbols, and how they are spelled.
 use Rattle.std.specs.Prelude.{◌≡◌, ℕ, Bool, cond, ◌&&◌, List, length, Ok, Err, Result, nat_le}
 use Rattle.std.specs.List.{flat_map}
-use Rattle.refusal.specs.declared.SpellFault.{SpellFault}
-use Rattle.refusal.specs.declared.SpellFault.TheVariants.{WordLength}
+use Rattle.script.specs.declared.SpellFault.{SpellFault}
+use Rattle.script.specs.declared.SpellFault.TheVariants.{WordLength}
 
 -- a word has 1 to 32 symbols
 abbrev pub word_sized : {S : Type 0} → List S → Bool

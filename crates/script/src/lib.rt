@@ -11,14 +11,15 @@ ghost use Rattle.std.specs.Result.{result_map_both};
 ghost use Rattle.script.specs.Words.{spell_answer, WordsApart};
 
 use arrayvec::ArrayVec;
-use refusal::SpellFault;
 use std::convert::AsSlice;
 
 mod alphabets;
 mod meanings;
+mod word_triple;
 
 pub use alphabets::{MorphemeClass, MorphemeSign};
 pub use meanings::meaning;
+pub use word_triple::WordTriple;
 
 // A script is told by the type of its symbols. Its meaning is the spelling of each symbol.
 pub trait Script {
@@ -40,6 +41,12 @@ pub trait Script {
     ghost even: { (x : Self) → length (spelling x) ≡ width };
 
     ghost apart: { (x y : Self) → spelling x ≡ spelling y → x ≡ y };
+}
+
+// Spelling a word: the word has no symbol or more than 32.
+#[derive(Clone, Copy, PartialEq, Eq, Debug)]
+pub enum SpellFault {
+    WordLength,
 }
 
 // The labels of a word, those of one symbol after another. A word of no symbol or of more than 32 is

@@ -22,9 +22,8 @@ use lexicon::ReadableList;
 use record::Tally;
 use refusal::Refusal;
 use rounding::millionths;
-use script::Script;
+use script::{Script, WordTriple};
 use store::RelationTable;
-use word_triple::WordTriple;
 
 // The share of a present triple: its count, in millionths of what the counts of the present triples with
 // its X and its relation add up to. The quotient goes to the nearest whole number, and from halfway

@@ -4,8 +4,8 @@ use Rattle.std.specs.Option.{option_map}
 use Rattle.refusal.specs.declared.Side.TheVariants.{First, Second}
 use Rattle.refusal.specs.declared.Refusal.{Refusal}
 use Rattle.refusal.specs.declared.Refusal.TheVariants.{UnknownWord, TripleAbsent}
-use Rattle.refusal.specs.declared.LinkFault.{LinkFault}
-use Rattle.refusal.specs.declared.LinkFault.TheVariants.{TriplePresent, NumbersHeld, NoPlace}
+use Rattle.link_table.specs.declared.faults.LinkFault.{LinkFault}
+use Rattle.link_table.specs.declared.faults.LinkFault.TheVariants.{TriplePresent, NumbersHeld, NoPlace}
 use Rattle.refusal.specs.Reports.{link_refusal}
 use Rattle.lexicon.specs.Rolls.{number_of}
 use Rattle.link_table.specs.Tables.{found, all_held, has_place, put_refusal, Put, Out}

@@ -14,8 +14,7 @@ use lexicon::{GrowingList, ReadableList};
 use link_table::Triple;
 use record::Record;
 use refusal::{Refusal, Side};
-use script::Script;
-use word_triple::WordTriple;
+use script::{Script, WordTriple};
 
 impl RelationTable {
     // Enters X, then Y, then their triple with its record, and answers the numbers. Refused, in this

@@ -12,8 +12,7 @@ use link_table::Triple;
 use listing::{LinkRow, list_links};
 use record::Record;
 use refusal::{Refusal, Side};
-use script::Script;
-use word_triple::WordTriple;
+use script::{Script, WordTriple};
 
 // The record of a link number, where the array reaches it.
 fn record_at<R: Record>(records: &[R], link: u32) -> Option<R>

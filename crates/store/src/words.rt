@@ -9,8 +9,7 @@ use lexicon::{GrowingList, ReadableList};
 use link_table::Triple;
 use record::Record;
 use refusal::{Refusal, Side};
-use script::{Script, spell_word};
-use word_triple::WordTriple;
+use script::{Script, WordTriple, spell_word};
 
 impl Labels {
     // The labels, in their order.
@@ -25,7 +24,7 @@ impl Labels {
 pub(super) fn spell<S: Script>(word: &[S], side: Side) -> Result<Labels, Refusal>
     ensures { Spelt S.Script.spelling word.now side result }
 {
-    let labels = spell_word(word).map_err(|fault| fault.at(side))?;
+    let labels = spell_word(word).map_err(|fault| Refusal::of_spelling(fault, side))?;
     Ok(Labels { labels })
 }
 
@@ -81,5 +80,6 @@ pub(super) fn known_triple<L: ReadableList>(
 pub(super) fn enter<L: GrowingList>(list: &mut L, word: &Labels, side: Side) -> Result<u16, Refusal>
     ensures { EnteredWord L.ReadableList.roll (growth_of L.GrowingList) list.old (labels_in word.now) side result list.new }
 {
-    list.enter(word.as_slice()).map_err(|fault| fault.at(side))
+    list.enter(word.as_slice())
+        .map_err(|fault| Refusal::of_list(fault, side))
 }

@@ -10,7 +10,7 @@ use std::alloc::{AllocError, AllocGlobal, Global};
 use std::process::Abort;
 use std::test::Fail;
 use store::RelationTable;
-use word_triple::WordTriple;
+use script::WordTriple;
 
 const ONE: Tally = Tally { count: 1 };
 

@@ -4,7 +4,7 @@ use lexicon::ReadableList;
 use record::Record;
 use std::alloc::{AllocError, Global};
 use store::RelationTable;
-use word_triple::WordTriple;
+use script::WordTriple;
 
 // A link table of so many cells and index entries, all with some content.
 pub fn table<L: ReadableList, R: Record>(

@@ -5,12 +5,11 @@ use listing::LinkRow;
 use record::Tally;
 use refusal::Refusal;
 use requests::{GrowingRequest, Request, perform, perform_growing};
-use script::{MorphemeClass, MorphemeSign, Script};
+use script::{MorphemeClass, MorphemeSign, Script, WordTriple};
 use std::alloc::{AllocError, Global};
 use std::test::Fail;
 use store::RelationTable;
 use trie_list::TrieList;
-use word_triple::WordTriple;
 
 const ONE: Tally = Tally { count: 1 };
 

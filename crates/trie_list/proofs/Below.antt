@@ -3,8 +3,8 @@ use Rattle.std.proofs.Common.{◌≡◌, ℕ, ◌+◌, ◌<◌, ◌≤◌, true,
 use Rattle.std.specs.Option.{ok_or}
 use Rattle.std.proofs.lemmas.List.{map-append}
 use Rattle.std.proofs.lemmas.Bool.{cond-true, cond-false, le-leb, lt-leb}
-use Rattle.refusal.specs.declared.ListFault.{ListFault}
-use Rattle.refusal.specs.declared.ListFault.TheVariants.{OutputTooShort}
+use Rattle.lexicon.specs.declared.ListFault.{ListFault}
+use Rattle.lexicon.specs.declared.ListFault.TheVariants.{OutputTooShort}
 use Rattle.lexicon.specs.Rolls.{numbered, word_of}
 use Rattle.lexicon.proofs.Numbers.{numbered_bounds, number_word}
 use Rattle.cells.specs.Cells.{label_code, path_of_labels}

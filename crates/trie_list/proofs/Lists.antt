@@ -5,11 +5,11 @@ use mathlib.Core.HLevel.{is_prop→PathP}
 use Rattle.std.proofs.Math.Bridge.{le_prop}
 use denote.Struct.Props.{props}
 use Rattle.std.proofs.lemmas.Bool.{and_from, and_parts, and_left, and_right, both_ways, le-leb, lt-ltb, le-ltb, eq-eqb, cond-true, cond-false}
-use Rattle.refusal.specs.declared.ListFault.{ListFault}
-use Rattle.refusal.specs.declared.ListFault.TheVariants.{NoRoom}
-use Rattle.refusal.specs.declared.PathFault.{PathFault}
-use Rattle.refusal.specs.declared.PathFault.TheVariants.{NoPlace}
-use Rattle.refusal.specs.declared.NumberFault.TheVariants.{Unknown, Short}
+use Rattle.lexicon.specs.declared.ListFault.{ListFault}
+use Rattle.lexicon.specs.declared.ListFault.TheVariants.{NoRoom}
+use Rattle.double_array.specs.declared.faults.PathFault.{PathFault}
+use Rattle.double_array.specs.declared.faults.PathFault.TheVariants.{NoPlace}
+use Rattle.double_array.specs.declared.faults.NumberFault.TheVariants.{Unknown, Short}
 use Rattle.lexicon.specs.Rolls.{label_sized, number_of, numbered, word_of, Lawful}
 use Rattle.lexicon.specs.Answers.{enter_answer, EnterLeaves}
 use Rattle.lexicon.specs.Answers.{is_new as is_new_word}

@@ -1,7 +1,7 @@
 -- The words below a beginning.
 use Rattle.std.specs.Prelude.{◌≡◌, ℕ, ◌<◌, true, cond, List, ◌++◌, length, Ok, Err, Result, ◌≢◌, nat_le, slice_index}
-use Rattle.refusal.specs.declared.ListFault.{ListFault}
-use Rattle.refusal.specs.declared.ListFault.TheVariants.{WordLength, OutputTooShort}
+use Rattle.lexicon.specs.declared.ListFault.{ListFault}
+use Rattle.lexicon.specs.declared.ListFault.TheVariants.{WordLength, OutputTooShort}
 use Rattle.output.specs.Written.{fits, written}
 use Rattle.lexicon.specs.Rolls.{numbered, word_of}
 use Rattle.cells.specs.Cells.{path_of_labels}

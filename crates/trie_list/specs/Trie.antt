@@ -1,7 +1,7 @@
 -- What a trie list means, and what its arrays hold.
 use Rattle.std.specs.Prelude.{◌≡◌, ℕ, ◌+◌, ◌<◌, min, Bool, true, false, ◌&&◌, List, [], ◌∷◌, ◌++◌, length, is_some, Some, Ok, Err, Result, nat_lt, slice_index}
-use Rattle.refusal.specs.declared.ListFault.{ListFault}
-use Rattle.refusal.specs.declared.ListFault.TheVariants.{NoRoom}
+use Rattle.lexicon.specs.declared.ListFault.{ListFault}
+use Rattle.lexicon.specs.declared.ListFault.TheVariants.{NoRoom}
 use Rattle.lexicon.specs.Rolls.{number_of, numbered, word_of}
 use Rattle.cells.specs.Cells.{at}
 use Rattle.cells.specs.Laws.{cleared}

@@ -5,13 +5,13 @@ ghost use Rattle.double_array.specs.Views.{cells_of, index_of};
 ghost use Rattle.trie_list.specs.Below.{below_of, below_answer, below_output, WordsBelow};
 ghost use Rattle.trie_list.specs.Trie.{roll_of, room_of, Made, Walked, Placed, Appends};
 
+use super::faults::list_fault;
 use super::list::TrieList;
 use super::spelling::{codes_of, labels_of, path_of};
 use arrayvec::ArrayVec;
 use cells::Cell;
 use double_array::DoubleArray;
-use lexicon::{GrowingList, MAX_WORDS, ReadableList, has_label_size, is_numbered};
-use refusal::ListFault;
+use lexicon::{GrowingList, ListFault, MAX_WORDS, ReadableList, has_label_size, is_numbered};
 use subtrie::numbers_below;
 
 impl TrieList {
@@ -101,7 +101,9 @@ impl TrieList {
         }
         let path = path_of(word);
         let number = self.count + 1;
-        self.array.enter(path.as_slice(), number as u32)?;
+        self.array
+            .enter(path.as_slice(), number as u32)
+            .map_err(list_fault)?;
         self.count = number;
         Ok(number as u16)
     }

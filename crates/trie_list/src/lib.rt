@@ -5,6 +5,7 @@
 #![tactic(auto)]
 
 mod calls;
+mod faults;
 mod list;
 mod meanings;
 mod spelling;

@@ -1,8 +1,7 @@
 // One text over both lists: the same words get the same answers.
 use cells::Cell;
-use lexicon::{GrowingList, ReadableList};
+use lexicon::{GrowingList, ListFault, ReadableList};
 use plain_list::PlainList;
-use refusal::ListFault;
 use std::process::Abort;
 use std::test::Fail;
 use trie_list::TrieList;

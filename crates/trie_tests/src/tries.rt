@@ -1,8 +1,7 @@
 // The trie list: its cells by example, small arrays, a full index.
 use cells::Cell;
 use entry::{Entry, enter_word};
-use lexicon::{GrowingList, ReadableList};
-use refusal::ListFault;
+use lexicon::{GrowingList, ListFault, ReadableList};
 use script::{MorphemeClass, MorphemeSign, Script};
 use std::alloc::{AllocError, Global};
 use std::process::Abort;

@@ -12,14 +12,14 @@ use Rattle.history.specs.declared.replies.Link.{Link}
 use Rattle.history.specs.declared.replies.Reading.{Reading}
 use Rattle.history.specs.declared.replies.Reply.{Reply}
 use Rattle.history.specs.declared.replies.Reply.TheVariants.{Linked, Deleted}
-use Rattle.history.specs.Kits.{Kit, State, state_of, number_in, triple_in}
+use Rattle.history.specs.Kits.{Kit, Growth, State, state_of, number_in, triple_in}
 use Rattle.history.specs.Calls.{Adds, Ties, Deletes, read_of, add, tie, delete, replied}
 use Rattle.history.specs.Runs.{Entry, entry_of, event_of, History, present, put_in, handed_by, same_triple, Reached}
 use Rattle.history.specs.Laws.{Law, Answers}
 use Rattle.history.proofs.Onwards.{onward}
 use Rattle.uses.specs.Evidence.{IsOwnReading}
 
-module _ {S L R : Type 0} (K : Kit S L R) (room : L → List ℕ → Bool) (enters : L → List ℕ → L → Type 0) where
+module _ {S L R : Type 0} (K : Kit S L R) (G : Growth L) where
   -- an entry stays where another may be put in
   stays_put : (x y : List S) (q : ℕ) (r : R) (m : Result Link Refusal) (es : List (Entry S R)) (e : Entry S R) → In es e → In (put_in x y q r (handed_by {R = R} (replied {R = R} Linked m)) es) e
   stays_put x y q r (Ok link) es e i = inr i
@@ -27,7 +27,7 @@ module _ {S L R : Type 0} (K : Kit S L R) (room : L → List ℕ → Bool) (ente
 
   -- a caller's run: two adds, a tie that may be refused, and a delete of the other triple
   module _ (s0 s1 s2 s3 : State L R) (t : LinkTable) (x y x' y' : List S) (q q' : ℕ) (r : R) (link link' : Link) (m : Result Link Refusal) (u : ℕ)
-      (start : Reached K [] s0) (added : Adds K room enters s0 x y q r (Ok link) s1) (other : Adds K room enters s1 x' y' q' r (Ok link') s2)
+      (start : Reached K [] s0) (added : Adds K G s0 x y q r (Ok link) s1) (other : Adds K G s1 x' y' q' r (Ok link') s2)
       (tied : Ties K s2 x y q r m s3) (deleted : Deletes K s3.list s3.table x' y' q' (Ok u) t) where
     mine : Entry S R
     mine = entry_of x y q link.number r
@@ -50,22 +50,22 @@ module _ {S L R : Type 0} (K : Kit S L R) (room : L → List ℕ → Bool) (ente
 
     after_one : Reached K one s1 × Law K one s1
     unfolding one
-    after_one = onward K room enters s0 [] (add x y q r) (Ok (Linked link)) s1 [] (Ok link, refl, added, refl) [] start
+    after_one = onward K G s0 [] (add x y q r) (Ok (Linked link)) s1 [] (Ok link, refl, added, refl) [] start
 
     after_two : Reached K two s2 × Law K two s2
     unfolding two
-    after_two = onward K room enters s1 [] (add x' y' q' r) (Ok (Linked link')) s2 [] (Ok link', refl, other, refl) one after_one.0
+    after_two = onward K G s1 [] (add x' y' q' r) (Ok (Linked link')) s2 [] (Ok link', refl, other, refl) one after_one.0
 
     after_three : Reached K three s3 × Law K three s3
     unfolding three
-    after_three = onward K room enters s2 [] (tie x y q r) (replied Linked m) s3 [] (m, refl, tied, refl) two after_two.0
+    after_three = onward K G s2 [] (tie x y q r) (replied Linked m) s3 [] (m, refl, tied, refl) two after_two.0
 
     last : State L R
     last = state_of s3.list t s3.records
 
     after_four : Reached K four last × Law K four last
     unfolding four last
-    after_four = onward K room enters s3 [] (delete x' y' q') (Ok (Deleted u)) (state_of s3.list t s3.records) [] (Ok u, refl, deleted, refl, refl) three after_three.0
+    after_four = onward K G s3 [] (delete x' y' q') (Ok (Deleted u)) (state_of s3.list t s3.records) [] (Ok u, refl, deleted, refl, refl) three after_three.0
 
     -- the two triples are not the same, since their numbers are not
     unlike : same_triple K x' y' q' mine ≡ false

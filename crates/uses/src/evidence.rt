@@ -8,9 +8,8 @@ use history::Reading;
 use lexicon::GrowingList;
 use record::Record;
 use refusal::Refusal;
-use script::Script;
+use script::{Script, WordTriple};
 use store::RelationTable;
-use word_triple::WordTriple;
 
 // Makes a store, ties a pair with its evidence and another pair, asks for the first once more, which is
 // refused, takes the other pair out, and reads by the number that it was handed. If no call that counts

@@ -1,8 +1,8 @@
 -- Entering a word, by what the list holds.
 use Rattle.std.proofs.Common.{◌≡◌, ℕ, ◌+◌, min, Bool, true, false, ◌&&◌, ltb, List, length, replicate, is_some, Some, Ok, Err, Result, sym, ap, ◌∙◌, subst}
 use Rattle.std.proofs.lemmas.List.{length_push}
-use Rattle.refusal.specs.declared.ListFault.{ListFault}
-use Rattle.refusal.specs.declared.ListFault.TheVariants.{NoRoom}
+use Rattle.lexicon.specs.declared.ListFault.{ListFault}
+use Rattle.lexicon.specs.declared.ListFault.TheVariants.{NoRoom}
 use Rattle.lexicon.specs.Answers.{enter_answer, is_new, EnterLeaves}
 use Rattle.cells.specs.Placing.{Arrays, enter}
 use Rattle.cells.specs.Examples.{new_arrays}

@@ -1,7 +1,7 @@
 -- Worked examples of words: what entering them into a trie list comes to, and a spelling, by what list and script mean.
 use Rattle.std.specs.Prelude.{◌≡◌, ℕ, List, [], ◌∷◌, length, replicate, pos, negsuc, Some, None, Ok, Err, Option, Result}
 use Rattle.refusal.specs.Reports.{report_of, list_refusal}
-use Rattle.refusal.specs.declared.ListFault.{ListFault}
+use Rattle.lexicon.specs.declared.ListFault.{ListFault}
 use Rattle.refusal.specs.declared.Layer.TheVariants.{List as WordList}
 use Rattle.refusal.specs.declared.Side.TheVariants.{Neither}
 use Rattle.refusal.specs.declared.Report.{Report}

@@ -1,8 +1,7 @@
 use Rattle.std.proofs.Common.{◌≡◌, List, ap, ◌∙◌}
 use Rattle.record.specs.declared.Tally.{Tally}
 use Rattle.history.specs.Calls.{find_of}
-use Rattle.stores.specs.Meanings.{trie_tally_kit}
-use Rattle.lines.specs.Lines.{Store, found_text}
+use Rattle.lines.specs.Lines.{trie_tally_kit, Store, found_text}
 use Rattle.lines.proofs.Answers.{found_said}
 use Rattle.lines.proofs.answering.found.Goals as goal
 

@@ -2,8 +2,7 @@ use Rattle.std.proofs.Common.{◌≡◌, List, replicate, refl, ap, ◌∙◌}
 use Rattle.record.specs.declared.Tally.{Tally}
 use Rattle.history.specs.Kits.{number_in}
 use Rattle.history.specs.Calls.{rows_in}
-use Rattle.stores.specs.Meanings.{trie_tally_kit}
-use Rattle.lines.specs.Lines.{Store, listed_text}
+use Rattle.lines.specs.Lines.{trie_tally_kit, Store, listed_text}
 use Rattle.lines.proofs.Listings.{listing_said}
 use Rattle.lines.proofs.answering.listed.Goals as goal
 

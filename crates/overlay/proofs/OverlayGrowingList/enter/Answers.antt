@@ -1,7 +1,7 @@
 use Rattle.std.proofs.Common.{◌≡◌, ℕ, ◌+◌, ◌<◌, ◌++◌, ◌&&◌, List, true, length, None, Ok, Option, Result, sym, refl, ap, ◌∙◌, subst, arith, length-append}
 use Rattle.std.specs.Prelude.{nat_lt}
 use Rattle.std.proofs.lemmas.Bool.{and_from, lt-ltb}
-use Rattle.refusal.specs.declared.ListFault.{ListFault}
+use Rattle.lexicon.specs.declared.ListFault.{ListFault}
 use Rattle.lexicon.specs.Answers.{find_answer}
 use Rattle.lexicon.proofs.Entries.{new_answer, new_is, leaves_new}
 use Rattle.overlay.proofs.Appends.{entered}

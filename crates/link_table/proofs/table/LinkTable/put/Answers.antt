@@ -4,7 +4,7 @@ use Rattle.std.proofs.lemmas.Result.{err_from_is_err_and}
 use Rattle.cells.specs.Walking.{number_at}
 use Rattle.double_array.specs.Entries.{Added, Entry}
 use Rattle.double_array.specs.Views.{cells_of, index_of}
-use Rattle.refusal.specs.declared.LinkFault.{LinkFault}
+use Rattle.link_table.specs.declared.faults.LinkFault.{LinkFault}
 use Rattle.link_table.specs.Tables.{limit, found, numbers, all_held}
 use Rattle.link_table.proofs.Tables.{same_table, none_of, count_few, put_full, put_accepted, put_refused, refused_as, put_fields, put_done}
 use Rattle.link_table.proofs.table.LinkTable.put.Goals as goal

@@ -1,5 +1,5 @@
 use Rattle.std.proofs.Common.{◌≡◌, ℕ, ◌≤◌, true, leb, List, length, IfOk, Result, sym, ◌∙◌, subst}
-use Rattle.refusal.specs.declared.ListFault.{ListFault}
+use Rattle.lexicon.specs.declared.ListFault.{ListFault}
 use Rattle.std.proofs.lemmas.Bool.{cond-true, le-leb}
 use Rattle.double_array.specs.Views.{cells_of, index_of}
 use Rattle.output.specs.Written.{Filled}

@@ -1,9 +1,8 @@
--- What the parts of the stores mean: byte text, either list, either record type.
+-- Stores of byte text over either list, with either record type, and that they begin.
 use Rattle.std.specs.Prelude.{ℕ, List, [], length}
 use Rattle.script.specs.contracts.alphabets.U8Script.TheImpl.{ghosts as byte_text}
 use Rattle.trie_list.specs.declared.list.TrieList.{TrieList}
 use Rattle.trie_list.specs.contracts.calls.TrieListReadableList.TheImpl.{ghosts as trie}
-use Rattle.trie_list.specs.contracts.calls.TrieListGrowingList.TheImpl.{ghosts as growing_trie}
 use Rattle.plain_list.specs.declared.list.PlainList.{PlainList}
 use Rattle.plain_list.specs.contracts.calls.PlainListReadableList.TheImpl.{ghosts as plain}
 use Rattle.record.specs.declared.Tally.{Tally}
@@ -12,7 +11,7 @@ use Rattle.record.specs.declared.Score.{Score}
 use Rattle.record.specs.contracts.ScoreRecord.TheImpl.{ghosts as score}
 use Rattle.link_table.specs.Tables.{Made}
 use Rattle.link_table.specs.declared.table.LinkTable.{LinkTable}
-use Rattle.history.specs.Kits.{Kit, Growth, kit_of, state_of}
+use Rattle.history.specs.Kits.{Kit, kit_of, state_of}
 use Rattle.history.specs.Runs.{Reached}
 use Rattle.history.specs.Laws.{Law}
 
@@ -27,10 +26,6 @@ plain_tally_kit = kit_of byte_text plain tally
 
 abbrev pub plain_score_kit : Kit ℕ PlainList Score
 plain_score_kit = kit_of byte_text plain score
-
--- how a trie list grows
-abbrev pub trie_growth : Growth TrieList
-trie_growth = record { room = growing_trie.room; enters = growing_trie.enters }
 
 -- over a list of any words, with any records and a table that was made for them, a history begins and the law holds
 abbrev pub Begins : {S L R : Type 0} → Kit S L R → Type 0

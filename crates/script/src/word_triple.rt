@@ -1,9 +1,5 @@
-// Triples of words: two words, and the relation that is asked of them.
-//
-// This crate knows no script, no list and no number: a triple here is what a caller asks about. The
-// triple of numbers that a table holds stands in crate `link_table`.
-#![tactic(auto)]
-
+// Triples of words: two words, and the relation that is asked of them. Such a triple is what a caller asks
+// about, and knows no script, no list and no number; that of numbers stands in crate `link_table`.
 ghost use Rattle.std.specs.Prelude.{◌≡◌, ⊤};
 
 use std::alloc::AllocError;
