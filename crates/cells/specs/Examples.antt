@@ -17,9 +17,9 @@ pub record CellAt : Type 0 where
   pub check : ℕ
 
 -- the cells after these were written
-abbrev pub written : List Cell → List CellAt → List Cell
-written cs [] = cs
-written cs (c ∷ more) = written (slice_set cs c.place (record { base = c.base; check = pos c.check })) more
+abbrev pub with_cells : List Cell → List CellAt → List Cell
+with_cells cs [] = cs
+with_cells cs (c ∷ more) = with_cells (slice_set cs c.place (record { base = c.base; check = pos c.check })) more
 
 -- what is done with what there is
 abbrev pub then_with : {X : Type 0} → Option Arrays → (Arrays → Option X) → Option X
@@ -66,7 +66,7 @@ two_paths = (3 ∷ 1 ∷ []) ∷ (5 ∷ 1 ∷ []) ∷ []
 -- the cells that hold them: the cell 2, at which the root would have a child by the code 1, is taken
 abbrev pub two_held : Arrays
 two_held = record {
-  cells = written (replicate 10 free_cell) (
+  cells = with_cells (replicate 10 free_cell) (
       record { place = 1; base = pos 1; check = 1 } ∷ record { place = 2; base = negsuc 0; check = 4 } ∷ record { place = 3; base = negsuc 1; check = 6 }
       ∷ record { place = 4; base = pos 1; check = 1 } ∷ record { place = 6; base = pos 2; check = 1 } ∷ []);
   index = 2 ∷ 3 ∷ 0 ∷ [];
@@ -81,7 +81,7 @@ out_all o (p ∷ more) = out_all (then_with o (λ xs. take_out xs.cells xs.index
 pub record Examples : Type 0 where
   -- in 104 cells a, b and ab have a place: the leaf of a moves from 2 to 4, and its index entry follows
   pub fits : enter_all (Some (new_arrays 104 3)) 0 (a_path ∷ b_path ∷ ab_path ∷ []) ≡ Some (record {
-    cells = written (replicate 104 free_cell) (
+    cells = with_cells (replicate 104 free_cell) (
         record { place = 1; base = pos 1; check = 1 } ∷ record { place = 2; base = negsuc 2; check = 103 } ∷ record { place = 3; base = negsuc 1; check = 101 }
         ∷ record { place = 4; base = negsuc 0; check = 100 } ∷ record { place = 100; base = pos 3; check = 1 } ∷ record { place = 101; base = pos 2; check = 1 }
         ∷ record { place = 103; base = pos 1; check = 100 } ∷ []);
@@ -89,7 +89,7 @@ pub record Examples : Type 0 where
   })
   -- in 103 cells a and b have one, and ab has none
   pub two_fit : enter_all (Some (new_arrays 103 3)) 0 (a_path ∷ b_path ∷ []) ≡ Some (record {
-    cells = written (replicate 103 free_cell) (
+    cells = with_cells (replicate 103 free_cell) (
         record { place = 1; base = pos 1; check = 1 } ∷ record { place = 2; base = negsuc 0; check = 100 } ∷ record { place = 3; base = negsuc 1; check = 101 }
         ∷ record { place = 100; base = pos 1; check = 1 } ∷ record { place = 101; base = pos 2; check = 1 } ∷ []);
     index = 2 ∷ 3 ∷ 0 ∷ [];
@@ -109,7 +109,7 @@ pub record Examples : Type 0 where
   pub two : enter_all (Some (new_arrays 10 3)) 0 two_paths ≡ Some two_held
   -- the root's family moves for a third path: both children, and the CHECK of theirs
   pub family : enter_all (Some two_held) 2 ((1 ∷ []) ∷ []) ≡ Some (record {
-    cells = written (replicate 10 free_cell) (
+    cells = with_cells (replicate 10 free_cell) (
         record { place = 1; base = pos 4; check = 1 } ∷ record { place = 2; base = negsuc 0; check = 7 } ∷ record { place = 3; base = negsuc 1; check = 9 }
         ∷ record { place = 5; base = negsuc 2; check = 1 } ∷ record { place = 7; base = pos 1; check = 1 } ∷ record { place = 9; base = pos 2; check = 1 } ∷ []);
     index = 2 ∷ 3 ∷ 5 ∷ [];

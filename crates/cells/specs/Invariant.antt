@@ -19,8 +19,8 @@ abbrev pub Blank : List Cell → Type 0
 Blank cs = (t : ℕ) → parent cs t ≡ 0 → at cs t ≡ free_cell
 
 -- climbing from a cell in use spells a path that leads to it
-abbrev pub Reached : List Cell → Type 0
-Reached cs = (t : ℕ) → 0 < parent cs t → is_found (cell_at cs (path_to cs t)) t ≡ true
+abbrev pub Reachable : List Cell → Type 0
+Reachable cs = (t : ℕ) → 0 < parent cs t → is_found (cell_at cs (path_to cs t)) t ≡ true
 
 -- a cell in use, but for the root, is a leaf or has a child
 abbrev pub Ended : List Cell → Type 0
@@ -31,7 +31,7 @@ pub record Sound (cs : List Cell) (is : List ℕ) : Type 0 where
   pub rooted : Rooted cs
   pub bare : Bare cs
   pub blank : Blank cs
-  pub reached : Reached cs
+  pub reached : Reachable cs
   pub ended : Ended cs
   pub leads : Leads cs is
   pub entered : Entered cs is

@@ -4,7 +4,7 @@ use Rattle.std.specs.Option.{option_map, option_zip}
 use Rattle.std.proofs.lemmas.Bool.{cond-true, eqb-true, le-leb, leb-true, and_from, and_parts}
 use Rattle.std.proofs.lemmas.List.Elements.{All-nil, All-cons}
 use Rattle.command.specs.Fields.{fields}
-use Rattle.command.specs.Numbers.{number_of}
+use Rattle.command.specs.Numbers.{number_read}
 use Rattle.command.specs.Commands.{Asked, add, tie, delete, find, share, list, letter, field, word_fields, pair_fields, count_fields, letter_asks, asked_by}
 use Rattle.command.specs.Lines.{tabbed, line_of, Tabless, Sound, Writes, OneToOne}
 use Rattle.command.proofs.Texts.{tabbed_fields, tabless_fields, fields_tabbed, tabless_decimal}
@@ -12,10 +12,10 @@ use Rattle.command.proofs.Readings.{reads_back}
 
 -- what is written is read
 
-relation_read : (q : ℕ) → q ≤ 255 → number_of 255 (decimal q) ≡ Some q
+relation_read : (q : ℕ) → q ≤ 255 → number_read 255 (decimal q) ≡ Some q
 relation_read q within = (reads_back 255 (omega arith)).written q within
 
-count_read : (c : ℕ) → c ≤ 4294967295 → number_of 4294967295 (decimal c) ≡ Some c
+count_read : (c : ℕ) → c ≤ 4294967295 → number_read 4294967295 (decimal c) ≡ Some c
 count_read c within = (reads_back 4294967295 (omega arith)).written c within
 
 -- the fields of a sound command have no tab
@@ -49,7 +49,7 @@ pairs_read x y q within = ap (option_map (λ (n : ℕ). (x, y, n))) (relation_re
 
 counts_read : (x y : List ℕ) (q c : ℕ) → q ≤ 255 → c ≤ 4294967295 → count_fields (x ∷ (y ∷ (decimal q ∷ (decimal c ∷ [])))) ≡ Some (x, y, q, c)
 counts_read x y q c small within =
-    ap (λ (o : Option ℕ). option_map (λ (n : ℕ × ℕ). (x, y, n.0, n.1)) (option_zip o (number_of 4294967295 (decimal c)))) (relation_read q small)
+    ap (λ (o : Option ℕ). option_map (λ (n : ℕ × ℕ). (x, y, n.0, n.1)) (option_zip o (number_read 4294967295 (decimal c)))) (relation_read q small)
     ∙ ap (λ (o : Option ℕ). option_map (λ (n : ℕ × ℕ). (x, y, n.0, n.1)) (option_zip (Some q) o)) (count_read c within)
 
 reads : (line : List ℕ) (asked : Asked) → Writes line asked → asked_by line ≡ Some asked
@@ -107,17 +107,17 @@ four_fields : (fs : List (List ℕ)) → length fs ≡ 4 → fs ≡ field fs 0 �
 four_fields [] e = absurd (omega arith)
 four_fields (a ∷ fs) e = ap (λ (z : List (List ℕ)). a ∷ z) (three_fields fs (omega arith))
 
-relation_only : (s : List ℕ) (q : ℕ) → number_of 255 s ≡ Some q → (s ≡ decimal q) × (q ≤ 255)
+relation_only : (s : List ℕ) (q : ℕ) → number_read 255 s ≡ Some q → (s ≡ decimal q) × (q ≤ 255)
 relation_only s q e = (reads_back 255 (omega arith)).only s q e
 
-count_only : (s : List ℕ) (c : ℕ) → number_of 4294967295 s ≡ Some c → (s ≡ decimal c) × (c ≤ 4294967295)
+count_only : (s : List ℕ) (c : ℕ) → number_read 4294967295 s ≡ Some c → (s ≡ decimal c) × (c ≤ 4294967295)
 count_only s c e = (reads_back 4294967295 (omega arith)).only s c e
 
 words_only : (fs : List (List ℕ)) (p : List ℕ × ℕ) → word_fields fs ≡ Some p → (fs ≡ p.0 ∷ (decimal p.1 ∷ [])) × (p.1 ≤ 255)
 words_only fs p e =
     some_cond (eqb (length fs) 2) _ None p _ e
     (λ size found.
-    let m = from_mapped (λ (q : ℕ). (field fs 0, q)) (number_of 255 (field fs 1)) p found in
+    let m = from_mapped (λ (q : ℕ). (field fs 0, q)) (number_read 255 (field fs 1)) p found in
     let q = relation_only (field fs 1) m.0 m.1 in
     subst (λ (z : List ℕ × ℕ). (fs ≡ z.0 ∷ (decimal z.1 ∷ [])) × (z.1 ≤ 255)) m.2
     (two_fields fs (eqb-true (length fs) 2 size) ∙ ap (λ (s : List ℕ). field fs 0 ∷ (s ∷ [])) q.0, q.1))
@@ -127,7 +127,7 @@ pairs_only : (fs : List (List ℕ)) (p : List ℕ × List ℕ × ℕ) → pair_f
 pairs_only fs p e =
     some_cond (eqb (length fs) 3) _ None p _ e
     (λ size found.
-    let m = from_mapped (λ (q : ℕ). (field fs 0, field fs 1, q)) (number_of 255 (field fs 2)) p found in
+    let m = from_mapped (λ (q : ℕ). (field fs 0, field fs 1, q)) (number_read 255 (field fs 2)) p found in
     let q = relation_only (field fs 2) m.0 m.1 in
     subst (λ (z : List ℕ × List ℕ × ℕ). (fs ≡ z.0 ∷ (z.1 ∷ (decimal z.2 ∷ []))) × (z.2 ≤ 255)) m.2
     (three_fields fs (eqb-true (length fs) 3 size) ∙ ap (λ (s : List ℕ). field fs 0 ∷ (field fs 1 ∷ (s ∷ []))) q.0, q.1))
@@ -138,9 +138,9 @@ counts_only : (fs : List (List ℕ)) (p : List ℕ × List ℕ × ℕ × ℕ) �
 counts_only fs p e =
     some_cond (eqb (length fs) 4) _ None p _ e
     (λ size found.
-    let both = option_zip (number_of 255 (field fs 2)) (number_of 4294967295 (field fs 3)) in
+    let both = option_zip (number_read 255 (field fs 2)) (number_read 4294967295 (field fs 3)) in
     let m = from_mapped (λ (n : ℕ × ℕ). (field fs 0, field fs 1, n.0, n.1)) both p found in
-    let parts = from_zipped (number_of 255 (field fs 2)) (number_of 4294967295 (field fs 3)) m.0 m.1 in
+    let parts = from_zipped (number_read 255 (field fs 2)) (number_read 4294967295 (field fs 3)) m.0 m.1 in
     let q = relation_only (field fs 2) m.0.0 parts.0 in
     let c = count_only (field fs 3) m.0.1 parts.1 in
     subst (λ (z : List ℕ × List ℕ × ℕ × ℕ). (fs ≡ z.0 ∷ (z.1 ∷ (decimal z.2 ∷ (decimal z.3 ∷ [])))) × (z.2 ≤ 255) × (z.3 ≤ 4294967295)) m.2 (

@@ -6,7 +6,7 @@ use Rattle.std.proofs.lemmas.List.{at_drop_more, at_drop_all}
 use Rattle.std.proofs.lemmas.Bool.{eq-eqb, ne_eqb, cond-true, cond-false, le-leb, lt-leb, leb-true, and_from, and_left, and_right, and_parts, or_left, or_right, or_from, or_cases, not_from_true, not_from_false, not-true, eqb-false, cases_Bool}
 use Rattle.std.proofs.lemmas.Str.Parse.{IsNumeralModel, numerals_by_fold}
 use Rattle.std.proofs.lemmas.Fmt.{digits_decimal, digits_value-decimal, decimal-digits_value, decimal_nonempty, decimal_digit, first_decimal}
-use Rattle.command.specs.Numbers.{read_on, plain, is_number, number_of, ReadsBack}
+use Rattle.command.specs.Numbers.{read_on, plain, is_number, number_read, ReadsBack}
 
 -- the digits and the number that they write, in the words of the library
 pub own : IsNumeralModel (λ ds. all_ascii_digits ds ≡ true) (read_on 0)
@@ -21,13 +21,13 @@ read_ge n (b ∷ bs) = let more : 10 * n + (b - 48) ≤ read_on (10 * n + (b - 4
 
 -- a text that is no number since it is not plain or too large
 module _ (limit : ℕ) (s : List ℕ) where
-  pub none_unplain : plain s ≡ false → number_of limit s ≡ None
+  pub none_unplain : plain s ≡ false → number_read limit s ≡ None
   none_unplain e = cond-false (is_number limit s) _ _ (and_left _ _ e)
 
-  pub none_over : limit < read_on 0 s → number_of limit s ≡ None
+  pub none_over : limit < read_on 0 s → number_read limit s ≡ None
   none_over over = cond-false (is_number limit s) _ _ (and_right (plain s) _ (and_right (all_ascii_digits s) _ (lt-leb (read_on 0 s) limit over)))
 
-  pub some_number : plain s ≡ true → all_ascii_digits s ≡ true → read_on 0 s ≤ limit → number_of limit s ≡ Some (read_on 0 s)
+  pub some_number : plain s ≡ true → all_ascii_digits s ≡ true → read_on 0 s ≤ limit → number_read limit s ≡ Some (read_on 0 s)
   some_number clear digits within = cond-true (is_number limit s) _ _ (and_from _ _ clear (and_from _ _ digits (le-leb (read_on 0 s) limit within)))
 
 pub plain_long : (s : List ℕ) → 2 ≤ length s → get_or s 0 0 ≡ 48 → plain s ≡ false
@@ -82,7 +82,7 @@ alone s clear first =
     (λ other. absurd (eqb-false (get_or s 0 0) 48 (not-true _ other) first))
     (or_cases (leb (length s) 1) _ p.1)
 
-only_decimal : (limit : ℕ) → limit < 2 ^ 64 → (s : List ℕ) (n : ℕ) → number_of limit s ≡ Some n → (s ≡ decimal n) × (n ≤ limit)
+only_decimal : (limit : ℕ) → limit < 2 ^ 64 → (s : List ℕ) (n : ℕ) → number_read limit s ≡ Some n → (s ≡ decimal n) × (n ≤ limit)
 only_decimal limit small s n e =
     ⊎_elim
     (λ yes.

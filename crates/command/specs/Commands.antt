@@ -5,7 +5,7 @@ use Rattle.std.specs.Option.{option_map, option_zip}
 use Rattle.command.specs.declared.Command.{Command}
 use Rattle.command.specs.declared.Command.TheVariants.{Add, Tie, Delete, Find, Share, List as ListOf}
 use Rattle.command.specs.Fields.{fields}
-use Rattle.command.specs.Numbers.{number_of}
+use Rattle.command.specs.Numbers.{number_read}
 
 -- a command, with its words as lists of bytes
 pub data Asked : Type 0 where
@@ -31,17 +31,17 @@ field fs i = slice_index_or fs i []
 
 -- two fields: X and a relation
 abbrev pub word_fields : List (List ℕ) → Option (List ℕ × ℕ)
-word_fields fs = cond (length fs == 2) (option_map (λ q. (field fs 0, q)) (number_of 255 (field fs 1))) None
+word_fields fs = cond (length fs == 2) (option_map (λ q. (field fs 0, q)) (number_read 255 (field fs 1))) None
 
 -- three fields: X, Y and a relation
 abbrev pub pair_fields : List (List ℕ) → Option (List ℕ × List ℕ × ℕ)
-pair_fields fs = cond (length fs == 3) (option_map (λ q. (field fs 0, field fs 1, q)) (number_of 255 (field fs 2))) None
+pair_fields fs = cond (length fs == 3) (option_map (λ q. (field fs 0, field fs 1, q)) (number_read 255 (field fs 2))) None
 
 -- four fields: X, Y, a relation and a count
 abbrev pub count_fields : List (List ℕ) → Option (List ℕ × List ℕ × ℕ × ℕ)
 count_fields fs =
     cond (length fs == 4)
-    (option_map (λ n. (field fs 0, field fs 1, n.0, n.1)) (option_zip (number_of 255 (field fs 2)) (number_of 4294967295 (field fs 3))))
+    (option_map (λ n. (field fs 0, field fs 1, n.0, n.1)) (option_zip (number_read 255 (field fs 2)) (number_read 4294967295 (field fs 3))))
     None
 
 -- an add and a tie, by their fields

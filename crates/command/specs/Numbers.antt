@@ -16,17 +16,17 @@ abbrev pub is_number : ℕ → List ℕ → Bool
 is_number limit s = plain s && (all_ascii_digits s && nat_le (read_on 0 s) limit)
 
 -- the number that a text writes
-abbrev pub number_of : ℕ → List ℕ → Option ℕ
-number_of limit s = cond (is_number limit s) (Some (read_on 0 s)) None
+abbrev pub number_read : ℕ → List ℕ → Option ℕ
+number_read limit s = cond (is_number limit s) (Some (read_on 0 s)) None
 
 -- what is written of a number is read back, and nothing else is read
 pub record ReadsBack (limit : ℕ) : Type 0 where
   -- the decimal text of a number within the limit
-  pub written : (n : ℕ) → n ≤ limit → number_of limit (decimal n) ≡ Some n
+  pub written : (n : ℕ) → n ≤ limit → number_read limit (decimal n) ≡ Some n
   -- a number over the limit is none
-  pub over : (n : ℕ) → n < 2 ^ 64 → limit < n → number_of limit (decimal n) ≡ None
+  pub over : (n : ℕ) → n < 2 ^ 64 → limit < n → number_read limit (decimal n) ≡ None
   -- what is read as a number is its decimal text
-  pub only : (s : List ℕ) (n : ℕ) → number_of limit s ≡ Some n → (s ≡ decimal n) × (n ≤ limit)
+  pub only : (s : List ℕ) (n : ℕ) → number_read limit s ≡ Some n → (s ≡ decimal n) × (n ≤ limit)
   -- an empty text is none, and a leading zero makes none
-  pub empty : number_of limit [] ≡ None
-  pub leading_zero : (b : ℕ) (bs : List ℕ) → number_of limit (48 ∷ (b ∷ bs)) ≡ None
+  pub empty : number_read limit [] ≡ None
+  pub leading_zero : (b : ℕ) (bs : List ℕ) → number_read limit (48 ∷ (b ∷ bs)) ≡ None

@@ -9,7 +9,7 @@ ghost use Rattle.std.specs.Prelude.{◌≡◌, ℕ, ◌^◌, ◌<◌, ◌≤◌,
 ghost use Rattle.std.specs.Option.{option_map};
 ghost use Rattle.refusal.specs.declared.Refusal.TheVariants.{MalformedLine};
 ghost use Rattle.command.specs.Fields.{is_tab, fields};
-ghost use Rattle.command.specs.Numbers.{number_of, ReadsBack};
+ghost use Rattle.command.specs.Numbers.{number_read, ReadsBack};
 ghost use Rattle.command.specs.Commands.{seen, word_fields, pair_fields, count_fields, letter_asks, asked_by};
 ghost use Rattle.command.specs.Lines.{OneToOne};
 
@@ -99,7 +99,7 @@ fn four(text: &[u8]) -> Option<(&[u8], &[u8], &[u8], &[u8])>
 
 // The number that decimal digits with no leading zero write, where it is at most the limit.
 fn number(digits: &[u8], limit: u32) -> Option<u32>
-    ensures value { result ≡ number_of limit digits.now }
+    ensures value { result ≡ number_read limit digits.now }
     ensures bound { IfSome result (λ n. n ≤ limit) }
 {
     if let [] | [b'0', _, ..] = digits {
@@ -122,7 +122,7 @@ fn number(digits: &[u8], limit: u32) -> Option<u32>
 
 // A relation of 0 to 255.
 fn relation_in(digits: &[u8]) -> Option<u8>
-    ensures { result ≡ number_of 255 digits.now }
+    ensures { result ≡ number_read 255 digits.now }
 {
     let n = number(digits, LAST_RELATION)?;
     Some(n as u8)
@@ -139,7 +139,7 @@ fn word_fields(rest: &[u8]) -> Option<(&[u8], u8)>
 
 // The triple of X, Y and the digits of a relation.
 fn triple_of<'a>(x: &'a [u8], y: &'a [u8], digits: &[u8]) -> Option<WordTriple<'a, u8>>
-    ensures relation { option_map (λ w. w.relation) result ≡ number_of 255 digits.now }
+    ensures relation { option_map (λ w. w.relation) result ≡ number_read 255 digits.now }
     ensures words { IfSome result (λ w. (w.x.now ≡ x.now) × (w.y.now ≡ y.now)) }
 {
     relation_in(digits).map(|relation| WordTriple { x, relation, y })

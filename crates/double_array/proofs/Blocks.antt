@@ -13,7 +13,7 @@ use Rattle.cells.proofs.Counts.{extends}
 use Rattle.cells.proofs.Paths.{reach_unique}
 use Rattle.cells.proofs.Sounds.{leaf_is, tidy_of}
 use Rattle.cells.proofs.Walks.{Codes, child_edge}
-use Rattle.double_array.specs.Entries.{Followed, or_stop, follow, is_new}
+use Rattle.double_array.specs.Entries.{Followed, or_stop, follow, is_unblocked}
 use Rattle.double_array.proofs.Refusals.{short_new}
 
 turned_onto : (p q r : List ℕ) → turned p q ++ r ≡ turned p (q ++ r)
@@ -68,7 +68,7 @@ module _ (cs : List Cell) (is : List ℕ) (sound : Sound cs is) (P : List ℕ �
       further (a ∷ q) n held = kind.alone p a q of (kind.held (p ++ a ∷ q) n held)
 
   -- so the path leaves the tree before its end, at a node that is no leaf
-  unblocked_long : 1 < length cs → (p : List ℕ) → all_codes p ≡ true → P p → number_at cs p ≡ None → is_new cs p ≡ true
+  unblocked_long : 1 < length cs → (p : List ℕ) → all_codes p ≡ true → P p → number_at cs p ≡ None → is_unblocked cs p ≡ true
   unblocked_long long p codes of none =
       let g = gone cs [] p 1 (codes_from p codes) refl in
       left (follow cs 1 p) g
@@ -93,7 +93,7 @@ module _ (cs : List Cell) (is : List ℕ) (sound : Sound cs is) (P : List ℕ �
           (⊎_elim (λ leaf. absurd (not_leaf_at f g f.rest refl some leaf)) (λ inner. not_from_false (is_leaf cs f.node) inner) (cases_Bool (is_leaf cs f.node)))
 
   -- the path, too, of an array without cells
-  pub unblocked : (p : List ℕ) → all_codes p ≡ true → P p → number_at cs p ≡ None → is_new cs p ≡ true
+  pub unblocked : (p : List ℕ) → all_codes p ≡ true → P p → number_at cs p ≡ None → is_unblocked cs p ≡ true
   unblocked [] codes of none = absurd (kind.some of)
   unblocked (a ∷ p) codes of none =
       ⊎_elim

@@ -12,7 +12,7 @@ use Rattle.cells.proofs.TakesOut.{taking}
 use Rattle.double_array.specs.declared.faults.PathFault.{PathFault}
 use Rattle.double_array.specs.declared.faults.PathFault.TheVariants as fault
 use Rattle.double_array.specs.Outcomes.{Taken, Removed}
-use Rattle.double_array.specs.Entries.{is_path, is_open, refusal, Entry, Added}
+use Rattle.double_array.specs.Entries.{is_path, is_open, refusal, EntersPath, Added}
 
 no_fault : (e : PathFault) → ◌≡◌ {A = Option PathFault} (Some e) None → ⊥
 no_fault e h = let z : ◌≡◌ {A = ℕ} 0 1 = cc in omega arith
@@ -30,14 +30,14 @@ module _ (cs : List Cell) (is p : List ℕ) (u : ℕ) where
       (cases_Bool (is_path p))
 
   module _ (xs : List Cell) (js : List ℕ) (sound : Sound cs is) where
-    entered : Entry cs is p u (Ok tt) xs js → Enters cs is p (u - 1) (record { cells = xs; index = js })
+    entered : EntersPath cs is p u (Ok tt) xs js → Enters cs is p (u - 1) (record { cells = xs; index = js })
     entered h = entering cs is p (u - 1) (record { cells = xs; index = js }) sound (eqb-true (get_or is (u - 1) 0) 0 (and_parts _ _ (accepted h.0)).1) h.1
 
-    pub entry_sound : (r : Result (Unit {0}) PathFault) → Entry cs is p u r xs js → Sound xs js
+    pub entry_sound : (r : Result (Unit {0}) PathFault) → EntersPath cs is p u r xs js → Sound xs js
     entry_sound (Ok x) h = (entered h).sound
     entry_sound (Err e) h = subst₂ Sound (sym h.1) (sym h.2) sound
 
-    pub entry_added : (r : Result (Unit {0}) PathFault) → Entry cs is p u r xs js → IfOk r (λ _. Added cs p u xs)
+    pub entry_added : (r : Result (Unit {0}) PathFault) → EntersPath cs is p u r xs js → IfOk r (λ _. Added cs p u xs)
     entry_added (Ok x) h = λ q.
         let some : 0 < u = ltb-true 0 u (and_parts _ _ (and_parts _ _ (accepted h.0)).0).0 in
         let same : suc (u - 1) ≡ u = omega arith in

@@ -10,19 +10,19 @@ use Rattle.cells.proofs.Lowests.{lowest_holds}
 use Rattle.cells.proofs.Sounds.{short_root, short_child}
 use Rattle.double_array.specs.declared.faults.PathFault.{PathFault}
 use Rattle.double_array.specs.declared.faults.PathFault.TheVariants as fault
-use Rattle.double_array.specs.Entries.{Followed, follow, or_stop, is_path, is_open, is_new, no_place, refusal, extended, Entry, Extended}
+use Rattle.double_array.specs.Entries.{Followed, follow, or_stop, is_path, is_open, is_unblocked, no_place, refusal, extended, EntersPath, Extended}
 use Rattle.double_array.proofs.Giving.{some_yes, some_no}
 use Rattle.double_array.proofs.Follows.{stop}
 
 module _ (cs : List Cell) (is p : List ℕ) (u : ℕ) (path : is_path p ≡ true) (number : is_open is u ≡ true) where
-  judged : refusal cs is p u ≡ cond (is_new cs p) (no_place (enter cs is p (u - 1))) (Some fault.Blocked)
+  judged : refusal cs is p u ≡ cond (is_unblocked cs p) (no_place (enter cs is p (u - 1))) (Some fault.Blocked)
   judged = cond-true (is_path p) _ (Some fault.Path) path ∙ cond-true (is_open is u) _ (Some fault.Number) number
 
-  pub blocked : is_new cs p ≡ false → refusal cs is p u ≡ Some fault.Blocked
-  blocked e = judged ∙ cond-false (is_new cs p) _ _ e
+  pub blocked : is_unblocked cs p ≡ false → refusal cs is p u ≡ Some fault.Blocked
+  blocked e = judged ∙ cond-false (is_unblocked cs p) _ _ e
 
-  pub judged_by : is_new cs p ≡ true → (o : Option Arrays) → enter cs is p (u - 1) ≡ o → refusal cs is p u ≡ no_place o
-  judged_by e o placed = judged ∙ cond-true (is_new cs p) _ _ e ∙ ap no_place placed
+  pub judged_by : is_unblocked cs p ≡ true → (o : Option Arrays) → enter cs is p (u - 1) ≡ o → refusal cs is p u ≡ no_place o
+  judged_by e o placed = judged ∙ cond-true (is_unblocked cs p) _ _ e ∙ ap no_place placed
 
   pub codes_of : all_codes p ≡ true
   codes_of = (and_parts _ _ path).1
@@ -32,14 +32,14 @@ module _ (cs : List Cell) (is p : List ℕ) (u : ℕ) (path : is_path p ≡ true
 
   -- the node where the path leaves the tree, and what is left of the path there
   module _ (s : ℕ) (rest : List ℕ) (node : s ≡ (follow cs 1 p).node) (left : rest ≡ (follow cs 1 p).rest) where
-    pub at_end : length rest ≤ 0 → is_new cs p ≡ false
+    pub at_end : length rest ≤ 0 → is_unblocked cs p ≡ false
     at_end none = and_left _ _ (ap some_code (sym left) ∙ some_no rest none)
 
-    pub at_leaf : true ≡ is_leaf cs s → is_new cs p ≡ false
+    pub at_leaf : true ≡ is_leaf cs s → is_unblocked cs p ≡ false
     at_leaf leaf = and_right _ _ (not_from_true _ (ap (is_leaf cs) (sym node) ∙ sym leaf))
 
     module _ (some : 0 < length rest) (inner : is_leaf cs s ≡ false) where
-      pub leaves : is_new cs p ≡ true
+      pub leaves : is_unblocked cs p ≡ true
       leaves = and_from _ _ (ap some_code (sym left) ∙ some_yes rest some) (not_from_false _ (ap (is_leaf cs) (sym node) ∙ inner))
 
       pub entered : enter cs is p (u - 1) ≡ extended rest cs is s (u - 1)
@@ -54,7 +54,7 @@ module _ (cs : List Cell) (is p : List ℕ) (u : ℕ) (path : is_path p ≡ true
           ∙ (stop cs p 1).missing (subst (λ l. 0 < length l) left some)
 
       -- what came of the rest of the path came of the whole
-      pub entry_of : (r : Result (Unit {0}) PathFault) (xs : List Cell) (js : List ℕ) → Extended cs is s rest (u - 1) r xs js → Entry cs is p u r xs js
+      pub entry_of : (r : Result (Unit {0}) PathFault) (xs : List Cell) (js : List ℕ) → Extended cs is s rest (u - 1) r xs js → EntersPath cs is p u r xs js
       entry_of (Ok x) xs js h = let done = entered ∙ h in (judged_by leaves _ done, done)
       entry_of (Err e) xs js h = (judged_by leaves None (entered ∙ h.1) ∙ ap Some (sym h.0), h.2, h.3)
 
@@ -79,7 +79,7 @@ module _ (cs : List Cell) (is : List ℕ) (few : length cs < 2) where
   inner_short : is_leaf cs 1 ≡ false
   inner_short = ap (λ c. lt_z c.base (pos 0)) (short_root cs few)
 
-  pub short_new : (p : List ℕ) → 0 < length p → is_new cs p ≡ true
+  pub short_new : (p : List ℕ) → 0 < length p → is_unblocked cs p ≡ true
   short_new [] h = absurd (omega arith)
   short_new (a ∷ more) h =
       let here : Followed = record { node = 1; rest = a ∷ more } in

@@ -6,7 +6,7 @@ use Rattle.cells.specs.contracts.Cell.{the_row as cell_row}
 use Rattle.cells.specs.declared.Cell.{Cell}
 use Rattle.cells.specs.Invariant.{Sound}
 use Rattle.double_array.specs.declared.faults.PathFault.{PathFault}
-use Rattle.double_array.specs.Entries.{Entry}
+use Rattle.double_array.specs.Entries.{EntersPath}
 use Rattle.double_array.specs.Outcomes.{Taken}
 use Rattle.double_array.specs.declared.array.DoubleArray.{DoubleArray}
 
@@ -18,7 +18,7 @@ same_array d e p = λ j. record {
 }
 
 -- a refused entry leaves the cells and the index as they were
-pub entry_same : (cs : List Cell) (is p : List ℕ) (u : ℕ) (r : Result (Unit {0}) PathFault) (xs : List Cell) (js : List ℕ) (Q : Type 0) → (xs ≡ cs → js ≡ is → Q) → Entry cs is p u r xs js → IfErr r (λ _. Q)
+pub entry_same : (cs : List Cell) (is p : List ℕ) (u : ℕ) (r : Result (Unit {0}) PathFault) (xs : List Cell) (js : List ℕ) (Q : Type 0) → (xs ≡ cs → js ≡ is → Q) → EntersPath cs is p u r xs js → IfErr r (λ _. Q)
 entry_same cs is p u (Ok _) xs js Q same done = tt
 entry_same cs is p u (Err e) xs js Q same done = same done.1 done.2
 

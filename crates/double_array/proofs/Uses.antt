@@ -11,7 +11,7 @@ use Rattle.cells.specs.Invariant.{Sound}
 use Rattle.cells.proofs.Enters.{short}
 use Rattle.cells.proofs.HeldPaths.{holding}
 use Rattle.cells.proofs.Tallies.{counting}
-use Rattle.double_array.specs.Outcomes.{Counted}
+use Rattle.double_array.specs.Outcomes.{CountsBeginnings}
 
 -- whether the cell is in use
 abbrev pub is_used : Cell → Bool
@@ -40,7 +40,7 @@ module _ (cs : List Cell) where
       ∙ ap (λ b. length (cond b (k ∷ numbers (k + 1) (length ds)) (numbers (k + 1) (length ds)))) (sym test)
 
 -- so the count is one more than the beginnings of the held paths
-pub counted_of : (cs : List Cell) (is : List ℕ) → Sound cs is → (n : ℕ) → n ≡ in_use cs → Counted cs n
+pub counted_of : (cs : List Cell) (is : List ℕ) → Sound cs is → (n : ℕ) → n ≡ in_use cs → CountsBeginnings cs n
 counted_of cs is h n e = record {
   held = holding cs is h;
   count = e

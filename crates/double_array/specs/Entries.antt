@@ -32,8 +32,8 @@ abbrev pub is_open : List ℕ → ℕ → Bool
 is_open is u = nat_lt 0 u && nat_lt u 2147483648 && slice_index is (u - 1) == 0
 
 -- whether the path leaves the tree before its end, at a node that is no leaf
-abbrev pub is_new : List Cell → List ℕ → Bool
-is_new cs p = some_code (follow cs 1 p).rest && not (is_leaf cs (follow cs 1 p).node)
+abbrev pub is_unblocked : List Cell → List ℕ → Bool
+is_unblocked cs p = some_code (follow cs 1 p).rest && not (is_leaf cs (follow cs 1 p).node)
 
 -- there is no place where the entry has no outcome
 abbrev pub no_place : Option Arrays → Option PathFault
@@ -43,12 +43,12 @@ no_place (Some xs) = None
 -- the first refusal that applies to the path p and the number u
 abbrev pub refusal : List Cell → List ℕ → List ℕ → ℕ → Option PathFault
 refusal cs is p u =
-    cond (is_path p) (cond (is_open is u) (cond (is_new cs p) (no_place (enter cs is p (u - 1))) (Some fault.Blocked)) (Some fault.Number)) (Some fault.Path)
+    cond (is_path p) (cond (is_open is u) (cond (is_unblocked cs p) (no_place (enter cs is p (u - 1))) (Some fault.Blocked)) (Some fault.Number)) (Some fault.Path)
 
 -- the path was entered by the placing rule, or it was refused and nothing changes
-abbrev pub Entry : List Cell → List ℕ → List ℕ → ℕ → Result (Unit {0}) PathFault → List Cell → List ℕ → Type 0
-Entry cs is p u (Ok _) xs js = (refusal cs is p u ≡ None) × (enter cs is p (u - 1) ≡ Some (record { cells = xs; index = js }))
-Entry cs is p u (Err e) xs js = (refusal cs is p u ≡ Some e) × (xs ≡ cs) × (js ≡ is)
+abbrev pub EntersPath : List Cell → List ℕ → List ℕ → ℕ → Result (Unit {0}) PathFault → List Cell → List ℕ → Type 0
+EntersPath cs is p u (Ok _) xs js = (refusal cs is p u ≡ None) × (enter cs is p (u - 1) ≡ Some (record { cells = xs; index = js }))
+EntersPath cs is p u (Err e) xs js = (refusal cs is p u ≡ Some e) × (xs ≡ cs) × (js ≡ is)
 
 -- the path p is held with the number u, and each other path is as it was
 abbrev pub Added : List Cell → List ℕ → ℕ → List Cell → Type 0

@@ -37,7 +37,7 @@ abbrev pub Removed : List Cell → List ℕ → List Cell → Type 0
 Removed cs p xs = (q : List ℕ) → number_at xs q ≡ cond (same_path q p) None (number_at cs q)
 
 -- n is one more than the different non-empty beginnings of the held paths, and 0 in an array of fewer than two cells
-pub record Counted (cs : List Cell) (n : ℕ) : Type 0 where
+pub record CountsBeginnings (cs : List Cell) (n : ℕ) : Type 0 where
   -- the paths that climbing from the leaves spells are exactly the held ones
   pub held : Holds cs (held_paths cs)
   -- and n is counted by their beginnings

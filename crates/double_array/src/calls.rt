@@ -4,8 +4,8 @@ ghost use Rattle.cells.specs.Cells.{at, child as child_of};
 ghost use Rattle.cells.specs.Walking.{cell_at, number_at};
 ghost use Rattle.cells.specs.Counting.{in_use};
 ghost use Rattle.cells.specs.Laws.{cleared, Walks};
-ghost use Rattle.double_array.specs.Outcomes.{SameSizes, Taken, Removed, Counted};
-ghost use Rattle.double_array.specs.Entries.{Entry, Added};
+ghost use Rattle.double_array.specs.Outcomes.{SameSizes, Taken, Removed, CountsBeginnings};
+ghost use Rattle.double_array.specs.Entries.{EntersPath, Added};
 ghost use Rattle.double_array.specs.Spellings.{Written, Named};
 ghost use Rattle.double_array.specs.Views.{cells_of, index_of};
 
@@ -41,7 +41,7 @@ impl DoubleArray {
 
     // Enters the path with the number, or says why it is refused and changes nothing.
     pub fn enter(&mut self, path: &[u16], number: u32) -> Result<(), PathFault>
-        ensures cells { Entry (cells_of self.old) (index_of self.old) path.now number result (cells_of self.new) (index_of self.new) }
+        ensures cells { EntersPath (cells_of self.old) (index_of self.old) path.now number result (cells_of self.new) (index_of self.new) }
         ensures sizes { SameSizes (cells_of self.old) (index_of self.old) (cells_of self.new) (index_of self.new) }
         ensures paths { OnOk result (Added (cells_of self.old) path.now number (cells_of self.new)) }
         ensures same { OnErr result (self.new ≡ self.old) }
@@ -72,7 +72,7 @@ impl DoubleArray {
     // none in an array of fewer than two cells.
     pub fn in_use(&self) -> usize
         ensures cells { result ≡ in_use (cells_of self.now) }
-        ensures paths { Counted (cells_of self.now) result }
+        ensures paths { CountsBeginnings (cells_of self.now) result }
     {
         self.nodes.in_use()
     }

@@ -6,7 +6,7 @@ ghost use Rattle.cells.specs.Invariant.{Sound};
 ghost use Rattle.cells.specs.Laws.{Open};
 ghost use Rattle.double_array.specs.Buffers.{SameBuffers};
 ghost use Rattle.double_array.specs.Outcomes.{Parented};
-ghost use Rattle.double_array.specs.Entries.{follow as followed, is_path, is_open, Entry, Extended};
+ghost use Rattle.double_array.specs.Entries.{follow as followed, is_path, is_open, EntersPath, Extended};
 
 use super::faults::PathFault;
 use super::nodes::Nodes;
@@ -133,7 +133,7 @@ impl Nodes {
     // Enters the path with the number, or says why it is refused and changes nothing.
     pub(super) fn enter(&mut self, path: &[u16], number: u32) -> Result<(), PathFault>
         requires { Sound self.old.cells.items self.old.index.items }
-        ensures cells { Entry self.old.cells.items self.old.index.items path.now number result self.new.cells.items self.new.index.items }
+        ensures cells { EntersPath self.old.cells.items self.old.index.items path.now number result self.new.cells.items self.new.index.items }
         ensures kept { SameBuffers self.old self.new }
     {
         if !is_path(path) {

@@ -12,12 +12,12 @@ use Rattle.script.specs.Words.{word_sized, spelled, spell_answer, WordsApart}
 use Rattle.lexicon.specs.Rolls.{label_sized, number_of}
 use Rattle.lexicon.specs.Answers.{held_or_next, enter_answer, is_new, EnterLeaves}
 use Rattle.lexicon.proofs.Numbers.{bounds_label, number_some, number_from_kept, number_from_last, number_from_only}
-use Rattle.entry.specs.declared.Entry.{Entry}
-use Rattle.entry.specs.declared.Entry.TheVariants.{New, Held}
+use Rattle.entry.specs.declared.WordEntry.{WordEntry}
+use Rattle.entry.specs.declared.WordEntry.TheVariants.{New, Held}
 use Rattle.entry.specs.Entries.{held_or_new, entry_answer, number_in, KeepsNumbers}
 
 -- what the list's answer becomes, where the list had so many words before
-abbrev pub entry_from : ℕ → Result ℕ ListFault → Result Entry Refusal
+abbrev pub entry_from : ℕ → Result ℕ ListFault → Result WordEntry Refusal
 entry_from count (Ok number) = cond (ltb count number) (Ok (New number)) (Ok (Held number))
 entry_from count (Err fault) = Err (list_refusal fault Neither)
 
@@ -51,7 +51,7 @@ module _ {S : Type 0} (spelling : S → List ℕ) (before : List (List ℕ)) (ro
       ∙ sym (cond-true (word_sized word) (held_or_new (number_of before (spelled spelling word)) room (length before)) (Err (WordLength Neither)) sized)
 
   -- nothing was entered
-  same_roll : (after : List (List ℕ)) (x : Result Entry Refusal) → after ≡ before → IfOk x (λ entry. number_of before (spelled spelling word) ≡ Some (number_in entry)) → KeepsNumbers spelling before word after x
+  same_roll : (after : List (List ℕ)) (x : Result WordEntry Refusal) → after ≡ before → IfOk x (λ entry. number_of before (spelled spelling word) ≡ Some (number_in entry)) → KeepsNumbers spelling before word after x
   same_roll after x same found = record {
     kept = λ v n e. ap (λ (r : List (List ℕ)). number_of r (spelled spelling v)) same ∙ e;
     only = λ v n e. inl (sym (ap (λ (r : List (List ℕ)). number_of r (spelled spelling v)) same) ∙ e);
@@ -80,12 +80,12 @@ module _ {S : Type 0} (spelling : S → List ℕ) (before : List (List ℕ)) (ro
   -- the numbers of words, where the word has the right length
   pub keeps_numbers : WordsApart spelling → word_sized word ≡ true → label_sized (spelled spelling word) ≡ true
       → (after : List (List ℕ)) → RollLeaves before (spelled spelling word) after (is_new before room (spelled spelling word))
-      → (x : Result Entry Refusal) → x ≡ entry_answer spelling before room word → KeepsNumbers spelling before word after x
+      → (x : Result WordEntry Refusal) → x ≡ entry_answer spelling before room word → KeepsNumbers spelling before word after x
   keeps_numbers apart sized labels after leaves x answer =
       let o = number_of before (spelled spelling word) in
       let new : is_new before room (spelled spelling word) ≡ (not (is_some o) && room) = ap (λ (b : Bool). b && (not (is_some o) && room)) labels in
       let said : x ≡ held_or_new o room (length before) = answer ∙ cond-true (word_sized word) (held_or_new o room (length before)) (Err (WordLength Neither)) sized in
-      subst (λ (z : Result Entry Refusal). KeepsNumbers spelling before word after z) (sym said)
+      subst (λ (z : Result WordEntry Refusal). KeepsNumbers spelling before word after z) (sym said)
       (by_cases apart after o room refl (subst (λ (b : Bool). RollLeaves before (spelled spelling word) after b) new leaves))
 
 -- a word that was spelled: its size is right, and these are its labels
@@ -118,7 +118,7 @@ spelled_slice spelling word labels slice whole answer bounds =
 -- what the call says, from what the list said
 module _ {S L : Type 0} (spelling : S → List ℕ) (roll : L → List (List ℕ)) (room : L → List ℕ → Bool) (enters : L → List ℕ → L → Type 0)
     (s : L) (word : List S) (t : L) where
-  pub record Told (x : Result Entry Refusal) : Type 0 where
+  pub record Told (x : Result WordEntry Refusal) : Type 0 where
     pub answer : x ≡ entry_answer spelling (roll s) (room s (spelled spelling word)) word
     pub after : EnterLeaves roll enters s (spelled spelling word) t (word_sized word && is_new (roll s) (room s (spelled spelling word)) (spelled spelling word))
     pub numbers : KeepsNumbers spelling (roll s) word (roll t) x
@@ -126,7 +126,7 @@ module _ {S L : Type 0} (spelling : S → List ℕ) (roll : L → List (List ℕ
   pub told : WordsApart spelling → (slice : List ℕ) → Spelled spelling word slice → (count : ℕ) (r : Result ℕ ListFault)
       → count ≡ length (roll s) → r ≡ enter_answer (roll s) (room s slice) slice
       → EnterLeaves roll enters s slice t (is_new (roll s) (room s slice) slice)
-      → (x : Result Entry Refusal) → x ≡ entry_from count r → Told x
+      → (x : Result WordEntry Refusal) → x ≡ entry_from count r → Told x
   told apart slice fit count r counted answered left x from =
       let w = spelled spelling word in
       let answer : x ≡ entry_answer spelling (roll s) (room s w) word =

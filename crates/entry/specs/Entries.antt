@@ -8,28 +8,28 @@ use Rattle.refusal.specs.declared.Report.{Report}
 use Rattle.refusal.specs.Reports.{report_of, report_text}
 use Rattle.script.specs.Words.{word_sized, spelled}
 use Rattle.lexicon.specs.Rolls.{number_of, word_of, numbered}
-use Rattle.entry.specs.declared.Entry.{Entry}
-use Rattle.entry.specs.declared.Entry.TheVariants.{New, Held}
-use Rattle.entry.specs.declared.Reply.{Reply}
+use Rattle.entry.specs.declared.WordEntry.{WordEntry}
+use Rattle.entry.specs.declared.WordEntry.TheVariants.{New, Held}
+use Rattle.entry.specs.declared.EntryReply.{EntryReply}
 
 -- entering a word of the right length: held with its number, or new with the next after the last, or refused
-abbrev pub held_or_new : Option ℕ → Bool → ℕ → Result Entry Refusal
+abbrev pub held_or_new : Option ℕ → Bool → ℕ → Result WordEntry Refusal
 held_or_new (Some number) room count = Ok (Held number)
 held_or_new None true count = Ok (New (count + 1))
 held_or_new None false count = Err (NoRoom Neither)
 
 -- entering a word: a word of no symbol or of more than 32 is refused first
-abbrev pub entry_answer : {S : Type 0} → (S → List ℕ) → List (List ℕ) → Bool → List S → Result Entry Refusal
+abbrev pub entry_answer : {S : Type 0} → (S → List ℕ) → List (List ℕ) → Bool → List S → Result WordEntry Refusal
 entry_answer spelling roll room word =
     cond (word_sized word) (held_or_new (number_of roll (spelled spelling word)) room (length roll)) (Err (WordLength Neither))
 
 -- the number in an entry
-abbrev pub number_in : Entry → ℕ
+abbrev pub number_in : WordEntry → ℕ
 number_in (New number) = number
 number_in (Held number) = number
 
 -- the numbers of words before and after a word was entered
-pub record KeepsNumbers {S : Type 0} (spelling : S → List ℕ) (before : List (List ℕ)) (word : List S) (after : List (List ℕ)) (answer : Result Entry Refusal) : Type 0 where
+pub record KeepsNumbers {S : Type 0} (spelling : S → List ℕ) (before : List (List ℕ)) (word : List S) (after : List (List ℕ)) (answer : Result WordEntry Refusal) : Type 0 where
   -- every word that had a number has it still
   pub kept : (v : List S) (n : ℕ) → number_of before (spelled spelling v) ≡ Some n → number_of after (spelled spelling v) ≡ Some n
   -- a word that has a number had it before, or is the one entered
@@ -56,15 +56,15 @@ asked_of [] = None
 asked_of (b ∷ more) = cond (b == 63) (Some more) None
 
 -- the reply to an answer
-abbrev pub reply_of : Result Entry Refusal → Reply
+abbrev pub reply_of : Result WordEntry Refusal → EntryReply
 reply_of answer = record { 0 = result_map_both (λ entry. entry) report_of answer }
 
 -- an answer as it is printed
-abbrev pub answer_text : Result Entry Report → List ℕ
+abbrev pub answer_text : Result WordEntry Report → List ℕ
 answer_text (Ok (New number)) = decimal number ++ codes " new"
 answer_text (Ok (Held number)) = decimal number ++ codes " held"
 answer_text (Err report) = codes "no " ++ report_text report
 
 -- a reply as it is printed
-abbrev pub reply_text : Reply → List ℕ
+abbrev pub reply_text : EntryReply → List ℕ
 reply_text r = answer_text r.0

@@ -18,7 +18,7 @@ use std::fmt;
 
 // The number of a word that was entered, and whether the list had it before.
 #[derive(Clone, Copy, PartialEq, Eq, Debug)]
-pub enum Entry {
+pub enum WordEntry {
     New(u16),
     Held(u16),
 }
@@ -26,7 +26,7 @@ pub enum Entry {
 // Enters a word of symbols and answers its number. A word of no symbol or of more than 32 is
 // refused, then a new word for which the list has no room; the list is then as it was.
 // Whatever comes, no word that the list had gets another number.
-pub fn enter_word<S: Script, L: GrowingList>(list: &mut L, word: &[S]) -> Result<Entry, Refusal>
+pub fn enter_word<S: Script, L: GrowingList>(list: &mut L, word: &[S]) -> Result<WordEntry, Refusal>
     ensures answer { result ≡ entry_answer S.Script.spelling (L.ReadableList.roll list.old) (L.GrowingList.room list.old (spelled S.Script.spelling word.now)) word.now }
     ensures after { EnterLeaves L.ReadableList.roll L.GrowingList.enters list.old (spelled S.Script.spelling word.now) list.new (word_sized word.now && is_new (L.ReadableList.roll list.old) (L.GrowingList.room list.old (spelled S.Script.spelling word.now)) (spelled S.Script.spelling word.now)) }
     ensures numbers { KeepsNumbers S.Script.spelling (L.ReadableList.roll list.old) word.now (L.ReadableList.roll list.new) result }
@@ -35,15 +35,15 @@ pub fn enter_word<S: Script, L: GrowingList>(list: &mut L, word: &[S]) -> Result
     let before = list.count();
     let number = list.enter(labels.as_slice())?;
     if number > before {
-        Ok(Entry::New(number))
+        Ok(WordEntry::New(number))
     } else {
-        Ok(Entry::Held(number))
+        Ok(WordEntry::Held(number))
     }
 }
 
 // How many labels the word of a number has; 0 where no word has the number. A list spells into an
 // output that it is lent: a rule of the project.
-fn labels_of<L: ReadableList>(list: &L, number: u16) -> usize
+fn label_count<L: ReadableList>(list: &L, number: u16) -> usize
     requires { Lawful (L.ReadableList.roll list.now) }
     ensures few { result ≤ 128 }
     ensures labels { result ≡ labels_at (L.ReadableList.roll list.now) number }
@@ -59,7 +59,7 @@ pub fn labels_held<L: ReadableList>(list: &L) -> usize
     // A loop: of a chain's `sum` the bound is not proved (tried).
     let mut labels = 0usize;
     for index in 0..list.count() {
-        labels += labels_of(list, index + 1);
+        labels += label_count(list, index + 1);
     }
     labels
 }
@@ -88,25 +88,25 @@ pub fn beginning_of(line: &[u8]) -> Option<&[u8]>
 
 // What is printed for one line of words: the entry, or the report of the refusal.
 #[derive(Clone, Copy, PartialEq, Eq, Debug)]
-pub struct Reply(pub Result<Entry, Report>);
+pub struct EntryReply(pub Result<WordEntry, Report>);
 
 // The reply to what entering a word answered.
-impl From<Result<Entry, Refusal>> for Reply {
+impl From<Result<WordEntry, Refusal>> for EntryReply {
     ghost from_gives = { λ answer r. r ≡ reply_of answer };
 
-    fn from(answer: Result<Entry, Refusal>) -> Reply {
-        Reply(answer.map_err(|refusal| refusal.report()))
+    fn from(answer: Result<WordEntry, Refusal>) -> EntryReply {
+        EntryReply(answer.map_err(|refusal| refusal.report()))
     }
 }
 
 // A reply is printed as the number with `new` or `held`, or as `no` with the report.
-impl fmt::Display for Reply {
+impl fmt::Display for EntryReply {
     ghost output = { λ r. Some (reply_text r) };
 
     fn fmt<W: fmt::Write>(&self, f: &mut fmt::Formatter<W>) -> fmt::Result {
         match self.0 {
-            Ok(Entry::New(number)) => write!(f, "{number} new"),
-            Ok(Entry::Held(number)) => write!(f, "{number} held"),
+            Ok(WordEntry::New(number)) => write!(f, "{number} new"),
+            Ok(WordEntry::Held(number)) => write!(f, "{number} held"),
             Err(report) => write!(f, "no {report}"),
         }
     }

@@ -10,27 +10,27 @@ use Rattle.cells.proofs.Basics.{no_some, some_same, some_is}
 use Rattle.cells.proofs.Pigeons.{in_kept, from_kept, apart_kept}
 use Rattle.lexicon.specs.Rolls.{number_of, Lawful}
 use Rattle.lexicon.proofs.Numbers.{number_some}
-use Rattle.link_table.specs.Tables.{found, coded, limit, numbers, Made, Put, Out}
+use Rattle.link_table.specs.Tables.{found, coded, limit, numbers, IsNewTable, Put, Out}
 use Rattle.link_table.specs.declared.table.LinkTable.{LinkTable}
 use Rattle.link_table.specs.declared.triple.Triple.{Triple}
 use Rattle.link_table.proofs.Tables.{lawful}
 use Rattle.history.specs.Kits.{Kit, labels_of, number_in, triple_in}
 use Rattle.history.specs.Refusals.{first, word_refusals}
-use Rattle.history.specs.Runs.{Entry, entry_of, same_word, same_triple, rewritten}
+use Rattle.history.specs.Runs.{PresentTriple, present_triple, same_word, same_triple, rewritten}
 use Rattle.cells.proofs.Members.{in_map, map_in}
 use Rattle.history.proofs.Members.{same_from, as_long, kept_map, nth_set, nth_set_other}
 use Rattle.history.proofs.Options.{same_test, some_from}
 
 -- the triple of an entry
-abbrev pub triple_at : {S L R : Type 0} → Kit S L R → L → Entry S R → Triple
+abbrev pub triple_at : {S L R : Type 0} → Kit S L R → L → PresentTriple S R → Triple
 triple_at K l e = triple_in K l e.x e.y e.relation
 
 -- the link number of an entry
-abbrev pub link_of : {S R : Type 0} → Entry S R → ℕ
+abbrev pub link_of : {S R : Type 0} → PresentTriple S R → ℕ
 link_of e = e.link
 
 -- an entry's words and relation are not refused, its record is sound, and the list has both words
-pub record Known {S L R : Type 0} (K : Kit S L R) (l : L) (e : Entry S R) : Type 0 where
+pub record Known {S L R : Type 0} (K : Kit S L R) (l : L) (e : PresentTriple S R) : Type 0 where
   pub fit : first (word_refusals e.x e.y e.relation) ≡ None
   pub sound : K.good e.kept ≡ true
   pub a : ℕ
@@ -39,19 +39,19 @@ pub record Known {S L R : Type 0} (K : Kit S L R) (l : L) (e : Entry S R) : Type
   pub y_number : number_in K l e.y ≡ Some b
 
 -- an entry stands in a state: the table has its triple with its number, and its record stands at that
-pub record Stands {S L R : Type 0} (K : Kit S L R) (l : L) (t : LinkTable) (rs : List R) (e : Entry S R) : Type 0 where
+pub record Stands {S L R : Type 0} (K : Kit S L R) (l : L) (t : LinkTable) (rs : List R) (e : PresentTriple S R) : Type 0 where
   pub known : Known K l e
   pub held : found t (triple_at K l e) ≡ Some e.link
   pub kept : slice_get rs (e.link - 1) ≡ Some e.kept
 
 -- the entries es and the numbers us handed out are those that the state holds
-pub record Fits {S L R : Type 0} (K : Kit S L R) (es : List (Entry S R)) (us : List ℕ) (l : L) (t : LinkTable) (rs : List R) : Type 0 where
+pub record Fits {S L R : Type 0} (K : Kit S L R) (es : List (PresentTriple S R)) (us : List ℕ) (l : L) (t : LinkTable) (rs : List R) : Type 0 where
   pub roll : Lawful (K.roll l)
   -- each number has a record
   pub enough : limit t ≤ length rs
   -- each entry stands, and each triple of the table is an entry's
-  pub stands : (e : Entry S R) → In es e → Stands K l t rs e
-  pub back : (c : Triple) (u : ℕ) → found t c ≡ Some u → (e : Entry S R) × In es e × (triple_at K l e ≡ c) × (e.link ≡ u)
+  pub stands : (e : PresentTriple S R) → In es e → Stands K l t rs e
+  pub back : (c : Triple) (u : ℕ) → found t c ≡ Some u → (e : PresentTriple S R) × In es e × (triple_at K l e ≡ c) × (e.link ≡ u)
   -- the numbers are the entries', no two alike
   pub unlike : Apart us
   pub numbers : us ≡ map link_of es
@@ -74,7 +74,7 @@ same_number roll v w n p q = sym (number_some roll v n p).2 ∙ (number_some rol
 
 module _ {S L R : Type 0} (K : Kit S L R) where
   -- the triple of an entry in its words' numbers
-  pub triple_known : (l : L) (e : Entry S R) (k : Known K l e) → triple_at K l e ≡ record { x = k.a; relation = e.relation; y = k.b }
+  pub triple_known : (l : L) (e : PresentTriple S R) (k : Known K l e) → triple_at K l e ≡ record { x = k.a; relation = e.relation; y = k.b }
   triple_known l e k = same_by (number_in K l e.x) (Some k.a) (number_in K l e.y) (Some k.b) e.relation e.relation k.x_number k.y_number refl
 
   -- words that have the same number are the same word
@@ -84,7 +84,7 @@ module _ {S L R : Type 0} (K : Kit S L R) where
       (bytes_eq-Decides (labels_of K v) (labels_of K w)).1 (same_number (K.roll l) (labels_of K v) (labels_of K w) a e (some_from (number_in K l w) a n low))
 
   -- an entry of these words and relation has their triple of numbers
-  pub triple_from : (l : L) (x y : List S) (q : ℕ) (e : Entry S R) → same_triple K x y q e ≡ true → triple_at K l e ≡ triple_in K l x y q
+  pub triple_from : (l : L) (x y : List S) (q : ℕ) (e : PresentTriple S R) → same_triple K x y q e ≡ true → triple_at K l e ≡ triple_in K l x y q
   triple_from l x y q e s =
       let one = and_parts (same_word K e.x x) (same_word K e.y y && eqb e.relation q) s in
       let two = and_parts (same_word K e.y y) (eqb e.relation q) one.1 in
@@ -94,7 +94,7 @@ module _ {S L R : Type 0} (K : Kit S L R) where
       (eqb-true e.relation q two.1)
 
   -- and an entry of known words that has their triple of numbers is of these words and relation
-  pub from_triple : (l : L) (x y : List S) (q : ℕ) (e : Entry S R) → Known K l e → triple_at K l e ≡ triple_in K l x y q → same_triple K x y q e ≡ true
+  pub from_triple : (l : L) (x y : List S) (q : ℕ) (e : PresentTriple S R) → Known K l e → triple_at K l e ≡ triple_in K l x y q → same_triple K x y q e ≡ true
   from_triple l x y q e k z =
       let same = sym z ∙ triple_known l e k in
       and_from (same_word K e.x x) (same_word K e.y y && eqb e.relation q)
@@ -106,17 +106,17 @@ module _ {S L R : Type 0} (K : Kit S L R) where
   -- the list grows
   module _ (l l' : L) (grows : Grows K l l') where
     -- known words stay known
-    known_grown : (e : Entry S R) → Known K l e → Known K l' e
+    known_grown : (e : PresentTriple S R) → Known K l e → Known K l' e
     known_grown e k = record { fit = k.fit; sound = k.sound; a = k.a; b = k.b; x_number = grows e.x k.a k.x_number; y_number = grows e.y k.b k.y_number }
 
     -- and triples stay the same
-    triple_grown : (e : Entry S R) → Known K l e → triple_at K l' e ≡ triple_at K l e
+    triple_grown : (e : PresentTriple S R) → Known K l e → triple_at K l' e ≡ triple_at K l e
     triple_grown e k =
         same_by (number_in K l' e.x) (number_in K l e.x) (number_in K l' e.y) (number_in K l e.y) e.relation e.relation
         (grows e.x k.a k.x_number ∙ sym k.x_number) (grows e.y k.b k.y_number ∙ sym k.y_number) refl
 
     -- so what the state held it holds
-    pub grown : {es : List (Entry S R)} {us : List ℕ} {t : LinkTable} {rs : List R} → Fits K es us l t rs → Lawful (K.roll l') → Fits K es us l' t rs
+    pub grown : {es : List (PresentTriple S R)} {us : List ℕ} {t : LinkTable} {rs : List R} → Fits K es us l t rs → Lawful (K.roll l') → Fits K es us l' t rs
     grown {es} {us} {t} {rs} F roll = record {
       roll = roll;
       enough = F.enough;
@@ -131,7 +131,7 @@ module _ {S L R : Type 0} (K : Kit S L R) where
     }
 
   -- a new state holds no triple
-  pub new_fits : (l : L) (t : LinkTable) (rs : List R) (n k : ℕ) → Lawful (K.roll l) → Made n k (length rs) t → Fits K [] [] l t rs
+  pub new_fits : (l : L) (t : LinkTable) (rs : List R) (n k : ℕ) → Lawful (K.roll l) → IsNewTable n k (length rs) t → Fits K [] [] l t rs
   new_fits l t rs n k roll made = record {
     roll = roll;
     enough = omega (arith, made.limit_is, min-le_left (min (length rs) k) 1048575, min-le_left (length rs) k);
@@ -141,17 +141,17 @@ module _ {S L R : Type 0} (K : Kit S L R) where
     numbers = refl;
   }
 
-  module _ {es : List (Entry S R)} {us : List ℕ} {l : L} {t : LinkTable} {rs : List R} (F : Fits K es us l t rs) where
+  module _ {es : List (PresentTriple S R)} {us : List ℕ} {l : L} {t : LinkTable} {rs : List R} (F : Fits K es us l t rs) where
     -- the number of an entry has its triple
-    pub link_coded : (e : Entry S R) → In es e → coded t e.link ≡ Some (triple_at K l e)
+    pub link_coded : (e : PresentTriple S R) → In es e → coded t e.link ≡ Some (triple_at K l e)
     link_coded e i = (lawful t).to_triple (triple_at K l e) e.link (F.stands e i).held
 
     -- it is from 1 to the limit
-    pub link_bounds : (e : Entry S R) → In es e → (1 ≤ e.link) × (e.link ≤ limit t)
+    pub link_bounds : (e : PresentTriple S R) → In es e → (1 ≤ e.link) × (e.link ≤ limit t)
     link_bounds e i = (lawful t).bounds (triple_at K l e) e.link (link_coded e i)
 
     -- entries with the same number are the same
-    pub same_link : (e f : Entry S R) → In es e → In es f → e.link ≡ f.link → e ≡ f
+    pub same_link : (e f : PresentTriple S R) → In es e → In es f → e.link ≡ f.link → e ≡ f
     same_link = same_from link_of es (subst Apart F.numbers F.unlike)
 
     -- the table holds as many numbers as there are entries
@@ -168,13 +168,13 @@ module _ {S L R : Type 0} (K : Kit S L R) where
         ∙ ap length F.numbers ∙ length-map es link_of
 
     -- a triple is put
-    module _ (x y : List S) (q : ℕ) (r : R) (u : ℕ) (t' : LinkTable) (known : Known K l (entry_of x y q u r)) (put : Put t (triple_in K l x y q) u t') where
+    module _ (x y : List S) (q : ℕ) (r : R) (u : ℕ) (t' : LinkTable) (known : Known K l (present_triple x y q u r)) (put : Put t (triple_in K l x y q) u t') where
       -- no entry has the new number
-      other_link : (e : Entry S R) → In es e → e.link ≡ u → ⊥
+      other_link : (e : PresentTriple S R) → In es e → e.link ≡ u → ⊥
       other_link e i z = no_some (triple_at K l e) (sym put.number_open ∙ ap (coded t) (sym z) ∙ link_coded e i)
 
       -- the new entry stands, and so do the others
-      put_stands : (e : Entry S R) → In (entry_of x y q u r ∷ es) e → Stands K l t' (set rs (u - 1) r) e
+      put_stands : (e : PresentTriple S R) → In (present_triple x y q u r ∷ es) e → Stands K l t' (set rs (u - 1) r) e
       put_stands e (inl z) = subst (Stands K l t' (set rs (u - 1) r)) (sym z) (record {
         known = known;
         held = put.here;
@@ -191,7 +191,7 @@ module _ {S L R : Type 0} (K : Kit S L R) where
           }
 
       -- the state holds the entry more
-      pub put_fits : Fits K (entry_of x y q u r ∷ es) (u ∷ us) l t' (set rs (u - 1) r)
+      pub put_fits : Fits K (present_triple x y q u r ∷ es) (u ∷ us) l t' (set rs (u - 1) r)
       put_fits = record {
         roll = F.roll;
         enough = omega (arith, length-set rs (u - 1) r, put.limit_same, F.enough);
@@ -199,7 +199,7 @@ module _ {S L R : Type 0} (K : Kit S L R) where
         back = λ c v f.
             let is = (lawful t').to_triple c v f in
             ⊎_elim
-            (λ z. (entry_of x y q u r, inl refl, some_same (triple_in K l x y q) c (sym put.here_coded ∙ ap (coded t') (sym z) ∙ is), sym z))
+            (λ z. (present_triple x y q u r, inl refl, some_same (triple_in K l x y q) c (sym put.here_coded ∙ ap (coded t') (sym z) ∙ is), sym z))
             (λ ne. let k = F.back c v ((lawful t).to_number c v (sym (put.others_coded v ne) ∙ is)) in (k.0, inr k.1, k.2, k.3))
             (cases_eq v u);
         unlike = (λ i. let k = map_in link_of es u (subst (λ (vs : List ℕ). In vs u) F.numbers i) in other_link k.0 k.1 (sym k.2), F.unlike);
@@ -209,7 +209,7 @@ module _ {S L R : Type 0} (K : Kit S L R) where
     -- a triple is taken out
     module _ (x y : List S) (q : ℕ) (u : ℕ) (t' : LinkTable) (out : Out t (triple_in K l x y q) u t') where
       -- its entry is the one with its number
-      by_link : (e : Entry S R) → In es e → eqb e.link u ≡ same_triple K x y q e
+      by_link : (e : PresentTriple S R) → In es e → eqb e.link u ≡ same_triple K x y q e
       by_link e i = same_test (eqb e.link u) (same_triple K x y q e)
           (λ z.
           let two = (lawful t).to_triple (triple_in K l x y q) u out.had in
@@ -217,11 +217,11 @@ module _ {S L R : Type 0} (K : Kit S L R) where
           (λ z. eq-eqb e.link u (some_same e.link u (sym (F.stands e i).held ∙ ap (found t) (triple_from l x y q e z) ∙ out.had)))
 
       -- the entries that stay
-      abbrev left : List (Entry S R)
+      abbrev left : List (PresentTriple S R)
       left = filter (λ e. not (same_triple K x y q e)) es
 
       -- each of them stands
-      out_stands : (e : Entry S R) → In left e → Stands K l t' rs e
+      out_stands : (e : PresentTriple S R) → In left e → Stands K l t' rs e
       out_stands e i =
           let k = from_kept (λ e. not (same_triple K x y q e)) es e i in
           let h = F.stands e k.1 in
@@ -247,22 +247,22 @@ module _ {S L R : Type 0} (K : Kit S L R) where
     -- a sound record is written
     module _ (u : ℕ) (r : R) (good : K.good r ≡ true) (c : Triple) (is : coded t u ≡ Some c) where
       -- the rest of the entry stays
-      rewritten_part : {Y : Type 0} (f : Entry S R → Y) → ((e : Entry S R) → f (entry_of e.x e.y e.relation e.link r) ≡ f e) → (e : Entry S R) → f (rewritten u r e) ≡ f e
-      rewritten_part f same e = cond_both (eqb e.link u) (entry_of e.x e.y e.relation e.link r) e (λ (z : Entry S R). f z ≡ f e) (λ _. same e) (λ _. refl)
+      rewritten_part : {Y : Type 0} (f : PresentTriple S R → Y) → ((e : PresentTriple S R) → f (present_triple e.x e.y e.relation e.link r) ≡ f e) → (e : PresentTriple S R) → f (rewritten u r e) ≡ f e
+      rewritten_part f same e = cond_both (eqb e.link u) (present_triple e.x e.y e.relation e.link r) e (λ (z : PresentTriple S R). f z ≡ f e) (λ _. same e) (λ _. refl)
 
       -- so the numbers stay
-      links_same : (ds : List (Entry S R)) → map link_of (map (rewritten u r) ds) ≡ map link_of ds
+      links_same : (ds : List (PresentTriple S R)) → map link_of (map (rewritten u r) ds) ≡ map link_of ds
       links_same [] = refl
       links_same (e ∷ ds) = ap (λ (v : ℕ). v ∷ map link_of (map (rewritten u r) ds)) (rewritten_part link_of (λ _. refl) e) ∙ ap (λ (vs : List ℕ). e.link ∷ vs) (links_same ds)
 
       -- each entry stands, with the new record if it has the number
-      change_stands : (e : Entry S R) → In es e → Stands K l t (set rs (u - 1) r) (rewritten u r e)
+      change_stands : (e : PresentTriple S R) → In es e → Stands K l t (set rs (u - 1) r) (rewritten u r e)
       change_stands e i =
           let h = F.stands e i in
           let k = h.known in
           let range = (lawful t).bounds c u is in
           let low = (link_bounds e i).0 in
-          cond_both (eqb e.link u) (entry_of e.x e.y e.relation e.link r) e (Stands K l t (set rs (u - 1) r))
+          cond_both (eqb e.link u) (present_triple e.x e.y e.relation e.link r) e (Stands K l t (set rs (u - 1) r))
           (λ z. record {
             known = record { fit = k.fit; sound = good; a = k.a; b = k.b; x_number = k.x_number; y_number = k.y_number };
             held = h.held;

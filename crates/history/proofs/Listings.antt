@@ -16,7 +16,7 @@ use Rattle.listing.proofs.Members.{members}
 use Rattle.listing.proofs.Orders.{rising}
 use Rattle.history.specs.Kits.{Kit, state_of, labels_of, number_in}
 use Rattle.history.specs.Refusals.{word_refusals}
-use Rattle.history.specs.Runs.{Entry, same_word}
+use Rattle.history.specs.Runs.{PresentTriple, same_word}
 use Rattle.history.specs.Laws.{asks, entries_of, Listing}
 use Rattle.history.proofs.Members.{apart_from}
 use Rattle.history.proofs.Options.{none_applies}
@@ -47,7 +47,7 @@ row_same t x r s u f g i j =
     let same : a ≡ b = some_same a b (sym ((lawful t).to_triple a r.link f) ∙ ap (coded t) (i ∙ sym j) ∙ (lawful t).to_triple b s.link g) in
     λ k. record { relation = (same k).relation; y = (same k).y; link = (i ∙ sym j) k }
 
-module _ {S L R : Type 0} (K : Kit S L R) {es : List (Entry S R)} {us : List ℕ} {l : L} {t : LinkTable} {rs : List R} (F : Fits K es us l t rs) (x : List S) (q a : ℕ) (number : number_in K l x ≡ Some a) where
+module _ {S L R : Type 0} (K : Kit S L R) {es : List (PresentTriple S R)} {us : List ℕ} {l : L} {t : LinkTable} {rs : List R} (F : Fits K es us l t rs) (x : List S) (q a : ℕ) (number : number_in K l x ≡ Some a) where
   -- the number of the word
   abbrev word : ℕ
   word = unwrap_or (number_in K l x) 0
@@ -57,11 +57,11 @@ module _ {S L R : Type 0} (K : Kit S L R) {es : List (Entry S R)} {us : List ℕ
   rows = rows_of t word q
 
   -- whether an entry is asked for
-  abbrev test : Entry S R → Bool
+  abbrev test : PresentTriple S R → Bool
   test e = same_word K e.x x && asks q e.relation
 
   -- each row is that of an entry that is asked for
-  from_row : (r : LinkRow) → In rows r → (e : Entry S R) × In (entries_of K es x q) e × (r.relation ≡ e.relation) × (number_in K l e.y ≡ Some r.y) × (r.link ≡ e.link)
+  from_row : (r : LinkRow) → In rows r → (e : PresentTriple S R) × In (entries_of K es x q) e × (r.relation ≡ e.relation) × (number_in K l e.y ≡ Some r.y) × (r.link ≡ e.link)
   from_row r i =
       let m = (members t word q).present r i in
       let k = F.back (record { x = word; relation = r.relation; y = r.y }) r.link m.0 in
@@ -74,7 +74,7 @@ module _ {S L R : Type 0} (K : Kit S L R) {es : List (Entry S R)} {us : List ℕ
       (e, in_kept test es e passes k.1, relation, known.y_number ∙ ap (λ (n : ℕ). Some n) (sym (ap (λ (c : Triple). c.y) same)), sym k.3)
 
   -- and each such entry has its row
-  to_row : (e : Entry S R) → In (entries_of K es x q) e → (r : LinkRow) × In rows r × (r.relation ≡ e.relation) × (number_in K l e.y ≡ Some r.y) × (r.link ≡ e.link)
+  to_row : (e : PresentTriple S R) → In (entries_of K es x q) e → (r : LinkRow) × In rows r × (r.relation ≡ e.relation) × (number_in K l e.y ≡ Some r.y) × (r.link ≡ e.link)
   to_row e i =
       let k = from_kept test es e i in
       let parts = and_parts (same_word K e.x x) (asks q e.relation) k.0 in
@@ -87,10 +87,10 @@ module _ {S L R : Type 0} (K : Kit S L R) {es : List (Entry S R)} {us : List ℕ
       (record { relation = e.relation; y = known.b; link = e.link }, (members t word q).whole e.relation known.b e.link has (from_asks q e.relation some parts.1), refl, known.y_number, refl)
 
   -- they add up to the same, where a row adds what the entry with its number does
-  pub same_sums : (f : LinkRow → ℕ) (g : Entry S R → ℕ) → ((r : LinkRow) (e : Entry S R) → In es e → r.link ≡ e.link → f r ≡ g e) → sum_by f rows ≡ sum_by g (entries_of K es x q)
+  pub same_sums : (f : LinkRow → ℕ) (g : PresentTriple S R → ℕ) → ((r : LinkRow) (e : PresentTriple S R) → In es e → r.link ≡ e.link → f r ≡ g e) → sum_by f rows ≡ sum_by g (entries_of K es x q)
   same_sums f g same =
-      let Shows : LinkRow → Entry S R → Type 0 = λ r e. (found t (record { x = word; relation = r.relation; y = r.y }) ≡ Some r.link) × In es e × (r.link ≡ e.link) in
-      let Shown : Entry S R → LinkRow → Type 0 = λ e r. In es e × (e.link ≡ r.link) in
+      let Shows : LinkRow → PresentTriple S R → Type 0 = λ r e. (found t (record { x = word; relation = r.relation; y = r.y }) ≡ Some r.link) × In es e × (r.link ≡ e.link) in
+      let Shown : PresentTriple S R → LinkRow → Type 0 = λ e r. In es e × (e.link ≡ r.link) in
       le_antisymm
       (sums_under f g Shows (λ r s e i j. row_same t word r s e.link i.0 j.0 i.2 j.2) (λ r e i. le_of_eq (same r e i.1 i.2)) rows (entries_of K es x q) (rising_apart rows (rising t word q))
       (λ r i. let k = from_row r i in (k.0, k.1, (((members t word q).present r i).0, (from_kept test es k.0 k.1).1, k.4))))

@@ -21,7 +21,7 @@ use Rattle.link_table.proofs.Tables.{lawful}
 use Rattle.history.specs.Kits.{Kit, State, state_of, any_growth, number_in, triple_in}
 use Rattle.history.specs.Refusals.{first, word_refusals, sought_refusals, link_refusals, add_refusals, tie_refusals, read_refusals, change_refusals, list_refusals}
 use Rattle.history.specs.Calls.{LinkMade, held_in, place_in, lacks, refusal_of_tie, refusal_of_add, refusal_of_sought, refusal_of_change, refusal_of_list, answered, link_by, read_by, read_of, rows_in}
-use Rattle.history.specs.Runs.{History, Entry, same_triple, Reached}
+use Rattle.history.specs.Runs.{History, PresentTriple, same_triple, Reached}
 use Rattle.history.specs.Laws.{Unless, has_triple, has_link, entries_of, code_in, Answers, Next, Law}
 use Rattle.cells.proofs.Members.{in_map, map_in}
 use Rattle.history.proofs.Members.{open_from, some_passes, passes_from, from_passes}
@@ -32,16 +32,16 @@ use Rattle.history.proofs.Listings.{as_many_rows, listing_of}
 use Rattle.history.proofs.Steps.{Held, held_of, add_grown}
 
 -- an entry has the triple if one passes the test of it
-has_triple_is : {S L R : Type 0} (K : Kit S L R) (es : List (Entry S R)) (x y : List S) (q : ℕ) → has_triple K es x y q ≡ some_passes (same_triple K x y q) es
+has_triple_is : {S L R : Type 0} (K : Kit S L R) (es : List (PresentTriple S R)) (x y : List S) (q : ℕ) → has_triple K es x y q ≡ some_passes (same_triple K x y q) es
 has_triple_is K [] x y q = refl
 has_triple_is K (e ∷ es) x y q = ap (cond (same_triple K x y q e) true) (has_triple_is K es x y q)
 
 -- and so of the number
-has_link_is : {S R : Type 0} (es : List (Entry S R)) (u : ℕ) → has_link es u ≡ some_passes (λ e. eqb e.link u) es
+has_link_is : {S R : Type 0} (es : List (PresentTriple S R)) (u : ℕ) → has_link es u ≡ some_passes (λ e. eqb e.link u) es
 has_link_is [] u = refl
 has_link_is (e ∷ es) u = ap (cond (eqb e.link u) true) (has_link_is es u)
 
-module _ {S L R : Type 0} (K : Kit S L R) {es : List (Entry S R)} {us : List ℕ} {l : L} {t : LinkTable} {rs : List R} (F : Fits K es us l t rs) where
+module _ {S L R : Type 0} (K : Kit S L R) {es : List (PresentTriple S R)} {us : List ℕ} {l : L} {t : LinkTable} {rs : List R} (F : Fits K es us l t rs) where
   -- the table has the triples of the entries
   pub held_is : (x y : List S) (q : ℕ) → held_in K l t x y q ≡ has_triple K es x y q
   held_is x y q =
@@ -64,12 +64,12 @@ module _ {S L R : Type 0} (K : Kit S L R) {es : List (Entry S R)} {us : List ℕ
       let k = F.back c.0 u ((lawful t).to_number c.0 u c.1) in
       from_passes (λ e. eqb e.link u) es k.0 k.1 (eq-eqb k.0.link u k.3))
       (λ h.
-      let k = passes_from (λ (e : Entry S R). eqb e.link u) es h in
+      let k = passes_from (λ (e : PresentTriple S R). eqb e.link u) es h in
       ap is_some (ap (coded t) (sym (eqb-true k.0.link u k.2)) ∙ link_coded K F k.0 k.1))
       ∙ sym (has_link_is es u)
 
   -- each entry is read by its number and found by its words
-  answers_of : (e : Entry S R) → In es e → Answers K (state_of l t rs) e
+  answers_of : (e : PresentTriple S R) → In es e → Answers K (state_of l t rs) e
   answers_of e i =
       let h = F.stands e i in
       let k = h.known in
@@ -88,7 +88,7 @@ module _ {S L R : Type 0} (K : Kit S L R) {es : List (Entry S R)} {us : List ℕ
       }
 
   -- no two entries are of one triple
-  once_of : (e f : Entry S R) → In es e → In es f → same_triple K f.x f.y f.relation e ≡ true → e ≡ f
+  once_of : (e f : PresentTriple S R) → In es e → In es f → same_triple K f.x f.y f.relation e ≡ true → e ≡ f
   once_of e f i j same =
       let he = (F.stands e i).held in
       let hf = (F.stands f j).held in
@@ -96,7 +96,7 @@ module _ {S L R : Type 0} (K : Kit S L R) {es : List (Entry S R)} {us : List ℕ
       same_link K F e f i j (some_same e.link f.link (sym he ∙ ap (found t) z ∙ hf))
 
   -- what walking finds is an entry's
-  walks_of : (p : List ℕ) (u : ℕ) → number_at (cells_of t.array) p ≡ Some u → (e : Entry S R) × In es e × (path_of_labels (code_in K l e) ≡ p) × (e.link ≡ u)
+  walks_of : (p : List ℕ) (u : ℕ) → number_at (cells_of t.array) p ≡ Some u → (e : PresentTriple S R) × In es e × (path_of_labels (code_in K l e) ≡ p) × (e.link ≡ u)
   walks_of p u f =
       let only = (lawful t).only p u f in
       let k = F.back (triple_of p) u (ap (number_at (cells_of t.array)) only ∙ f) in
@@ -152,7 +152,7 @@ module _ {S L R : Type 0} (K : Kit S L R) {es : List (Entry S R)} {us : List ℕ
       go None e = refl
       go (Some a) e = ap (λ (n : ℕ). first (list_refusals x (Some a) places n)) (as_many_rows K F x q a e)
 
-module _ {S L R : Type 0} (K : Kit S L R) {es : List (Entry S R)} {us : List ℕ} {p d : ℕ} (s : State L R) (H : Held K es us p d s) where
+module _ {S L R : Type 0} (K : Kit S L R) {es : List (PresentTriple S R)} {us : List ℕ} {p d : ℕ} (s : State L R) (H : Held K es us p d s) where
   -- the table is full as the entries say
   full_is : all_held s.table ≡ eqb (length es) (limit s.table)
   full_is = ap (λ (n : ℕ). eqb n (limit s.table)) (counts K H.fits)
@@ -197,14 +197,12 @@ law_of K {h} {s} run =
       roll = F.roll;
       numbers = F.numbers;
       unlike = F.unlike;
-      figure = counts K F;
+      figure = ap (λ (n : ℕ). record { triples = n; cells = in_use (cells_of s.table.array) }) (counts K F);
       tally = H.tally;
       once = once_of K F;
       sound = λ e i. (F.stands e i).known.sound;
       answers = answers_of K F;
-      in_use = in_use_of K F;
-      walks = walks_of K F;
-      walked = λ e i. (F.stands e i).held;
+      codes = record { used = in_use_of K F; walks = walks_of K F; walked = λ e i. (F.stands e i).held };
       lists = λ x q a number. listing_of K F x q a number;
       next = next_of K s H;
     }

@@ -16,7 +16,7 @@ use Rattle.history.specs.declared.replies.Reply.TheVariants.{Linked, Deleted, Ch
 use Rattle.history.specs.Kits.{Kit, State, Growth, state_of, any_growth, labels_of, number_in, triple_in}
 use Rattle.history.specs.Refusals.{none, word_refusals, put_refusals, add_refusals, tie_refusals, change_refusals}
 use Rattle.history.specs.Calls.{Call, add, tie, delete, find, read, change, list, figures, Decided, LinkMade, Adds, Ties, Deletes, Changes, Steps, links_in, lacks, grows, fine, refusal_of_tie, refusal_of_add, refusal_of_sought, refusal_of_change, replied}
-use Rattle.history.specs.Runs.{History, Entry, entry_of, rewritten, put_in, taken_out, given, present, present_after, hand_out, take_back, handed, handed_after, handed_by, taken_by, one_if, put_after, puts, delete_after, deletes, Reached, new, after}
+use Rattle.history.specs.Runs.{History, PresentTriple, present_triple, rewritten, put_in, taken_out, given, present, present_after, hand_out, take_back, handed, handed_after, handed_by, taken_by, one_if, put_after, puts, delete_after, deletes, Reached, new, after}
 use Rattle.history.proofs.Options.{none_from, none_applies, applies_none}
 use Rattle.history.proofs.Held.{Known, Fits, Grows, grown, new_fits, counts, put_fits, out_fits, change_fits}
 
@@ -46,14 +46,14 @@ known_from K G l l' x go e on fits =
     (cases_Bool (is_some (number_in K l x)))
 
 -- the entries and the numbers are those that the state holds, after p accepted puts and d accepted deletes
-pub record Held {S L R : Type 0} (K : Kit S L R) (es : List (Entry S R)) (us : List ℕ) (p d : ℕ) (s : State L R) : Type 0 where
+pub record Held {S L R : Type 0} (K : Kit S L R) (es : List (PresentTriple S R)) (us : List ℕ) (p d : ℕ) (s : State L R) : Type 0 where
   pub fits : Fits K es us s.list s.table s.records
   pub tally : length es + d ≡ p
 
-module _ {S L R : Type 0} (K : Kit S L R) {es : List (Entry S R)} {us : List ℕ} {p d : ℕ} where
+module _ {S L R : Type 0} (K : Kit S L R) {es : List (PresentTriple S R)} {us : List ℕ} {p d : ℕ} where
   -- a triple is put, unless a refusal applies
   put_held : (s t : State L R) (x y : List S) (q : ℕ) (r : R) (m : Result Link Refusal) (n : Result (Reply R) Refusal) (o : Option Refusal) → Held K es us p d s → n ≡ replied Linked m
-      → (o ≡ None → (u : ℕ) → Known K s.list (entry_of x y q u r)) → Decided o s m t (LinkMade K s x y q r m t) → Held K (put_in x y q r (handed_by n) es) (hand_out (handed_by n) us) (one_if (is_ok n) p) d t
+      → (o ≡ None → (u : ℕ) → Known K s.list (present_triple x y q u r)) → Decided o s m t (LinkMade K s x y q r m t) → Held K (put_in x y q r (handed_by n) es) (hand_out (handed_by n) us) (one_if (is_ok n) p) d t
   put_held s t x y q r m n (Some f) H e known k =
       subst (λ (z : Result (Reply R) Refusal). Held K (put_in x y q r (handed_by z) es) (hand_out (handed_by z) us) (one_if (is_ok z) p) d t) (sym (e ∙ ap (replied Linked) k.0))
       (subst (Held K es us p d) (sym k.1) H)
@@ -61,8 +61,8 @@ module _ {S L R : Type 0} (K : Kit S L R) {es : List (Entry S R)} {us : List ℕ
       let F = put_fits K H.fits x y q r k.u t.table (known refl k.u) k.table in
       subst (λ (z : Result (Reply R) Refusal). Held K (put_in x y q r (handed_by z) es) (hand_out (handed_by z) us) (one_if (is_ok z) p) d t) (sym (e ∙ ap (replied Linked) k.answer))
       (record {
-        fits = subst (λ (l : L). Fits K (entry_of x y q k.u r ∷ es) (k.u ∷ us) l t.table t.records) (sym k.list)
-            (subst (λ (rs : List R). Fits K (entry_of x y q k.u r ∷ es) (k.u ∷ us) s.list t.table rs) (sym k.records) F);
+        fits = subst (λ (l : L). Fits K (present_triple x y q k.u r ∷ es) (k.u ∷ us) l t.table t.records) (sym k.list)
+            (subst (λ (rs : List R). Fits K (present_triple x y q k.u r ∷ es) (k.u ∷ us) s.list t.table rs) (sym k.records) F);
         tally = omega (arith, H.tally);
       })
 
@@ -72,7 +72,7 @@ module _ {S L R : Type 0} (K : Kit S L R) {es : List (Entry S R)} {us : List ℕ
   tie_held s t x y q r m n H e k = put_held s t x y q r m n (refusal_of_tie K s.list s.table x y q r) H e known k
     where
       -- where nothing is refused both words are known
-      known : refusal_of_tie K s.list s.table x y q r ≡ None → (u : ℕ) → Known K s.list (entry_of x y q u r)
+      known : refusal_of_tie K s.list s.table x y q r ≡ None → (u : ℕ) → Known K s.list (present_triple x y q u r)
       known z u =
           let c = none_applies (tie_refusals x y q (K.good r) (number_in K s.list x) (number_in K s.list y) (links_in K s.list s.table x y q)) z in
           let a = some_is (number_in K s.list x) (not-false (is_some (number_in K s.list x)) c.1.1.1.1.0) in
@@ -102,7 +102,7 @@ module _ {S L R : Type 0} (K : Kit S L R) {es : List (Entry S R)} {us : List ℕ
       put_held (state_of k.last s.table s.records) t x y q r m n (refusal_of_add K G s.list k.mid k.last s.table x y q r) (add_grown G s t x y q r m H k) e known k.result
     where
       -- where nothing is refused both words are known by then
-      known : refusal_of_add K G s.list k.mid k.last s.table x y q r ≡ None → (u : ℕ) → Known K k.last (entry_of x y q u r)
+      known : refusal_of_add K G s.list k.mid k.last s.table x y q r ≡ None → (u : ℕ) → Known K k.last (present_triple x y q u r)
       known z u =
           let c = none_applies (add_refusals x y q (K.good r) (lacks K G s.list x) (lacks K G k.mid y) (links_in K k.last s.table x y q)) z in
           let well : fine K x y q r ≡ true = ap none (applies_none (put_refusals x y q (K.good r)) (c.0, (c.1.0, (c.1.1.0, (c.1.1.1.0, tt))))) in

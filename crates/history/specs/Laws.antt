@@ -3,7 +3,8 @@ use Rattle.std.specs.Prelude.{◌≡◌, ℕ, zero, suc, ◌+◌, ◌≤◌, Boo
 use Rattle.refusal.specs.declared.Refusal.{Refusal}
 use Rattle.lexicon.specs.Rolls.{Lawful}
 use Rattle.cells.specs.Cells.{path_of_labels}
-use Rattle.cells.specs.Counting.{beginnings}
+use Rattle.cells.specs.declared.Cell.{Cell}
+use Rattle.cells.specs.Counting.{in_use, beginnings}
 use Rattle.cells.specs.Trees.{In, Apart}
 use Rattle.cells.specs.Walking.{number_at}
 use Rattle.double_array.specs.Views.{cells_of}
@@ -16,7 +17,7 @@ use Rattle.history.specs.declared.replies.Reply.{Reply}
 use Rattle.history.specs.Kits.{Kit, State, any_growth, number_in, triple_in}
 use Rattle.history.specs.Refusals.{first, word_refusals, sought_refusals, link_refusals, add_refusals, tie_refusals, read_refusals, change_refusals, list_refusals}
 use Rattle.history.specs.Calls.{Call, lacks, place_in, Ties, Adds, Deletes, Changes, Lists, find_of, read_of, rows_in, figures_of}
-use Rattle.history.specs.Runs.{event_of, History, Entry, same_word, same_triple, present, handed, puts, deletes, Reached}
+use Rattle.history.specs.Runs.{event_of, History, PresentTriple, same_word, same_triple, present, handed, puts, deletes, Reached}
 
 -- accepted unless a refusal applies, and then refused by it
 abbrev pub Unless : {A : Type 0} → Option Refusal → Result A Refusal → Type 0
@@ -24,12 +25,12 @@ Unless (Some f) n = n ≡ Err f
 Unless None n = is_ok n ≡ true
 
 -- whether one of the entries is of the triple
-abbrev pub has_triple : {S L R : Type 0} → Kit S L R → List (Entry S R) → List S → List S → ℕ → Bool
+abbrev pub has_triple : {S L R : Type 0} → Kit S L R → List (PresentTriple S R) → List S → List S → ℕ → Bool
 has_triple K [] x y q = false
 has_triple K (e ∷ es) x y q = cond (same_triple K x y q e) true (has_triple K es x y q)
 
 -- whether one of the entries has the link number
-abbrev pub has_link : {S R : Type 0} → List (Entry S R) → ℕ → Bool
+abbrev pub has_link : {S R : Type 0} → List (PresentTriple S R) → ℕ → Bool
 has_link [] u = false
 has_link (e ∷ es) u = cond (e.link == u) true (has_link es u)
 
@@ -39,17 +40,24 @@ asks zero k = true
 asks (suc q) k = k == suc q
 
 -- the entries of X with the relation q, 0 for all
-abbrev pub entries_of : {S L R : Type 0} → Kit S L R → List (Entry S R) → List S → ℕ → List (Entry S R)
+abbrev pub entries_of : {S L R : Type 0} → Kit S L R → List (PresentTriple S R) → List S → ℕ → List (PresentTriple S R)
 entries_of K es x q = filter (λ e. same_word K e.x x && asks q e.relation) es
+
+-- what an array of cells says of the present triples, of which each has a code in it: in two cells or more those in use are one more than
+-- the different non-empty beginnings of the codes, and walking finds exactly the codes, each with its triple's link number
+pub record CodesInCells {S R : Type 0} (code : PresentTriple S R → List ℕ) (cells : List Cell) (es : List (PresentTriple S R)) : Type 0 where
+  pub used : 2 ≤ length cells → in_use cells ≡ 1 + length (beginnings (map code es))
+  pub walks : (p : List ℕ) (u : ℕ) → number_at cells p ≡ Some u → (e : PresentTriple S R) × In es e × (path_of_labels (code e) ≡ p) × (e.link ≡ u)
+  pub walked : (e : PresentTriple S R) → In es e → number_at cells (path_of_labels (code e)) ≡ Some e.link
 
 module _ {S L R : Type 0} (K : Kit S L R) where
   -- the code of an entry's triple
-  abbrev pub code_in : L → Entry S R → List ℕ
+  abbrev pub code_in : L → PresentTriple S R → List ℕ
   code_in l e = code_of (triple_in K l e.x e.y e.relation)
 
   -- what reading an entry's number and finding its triple answer: its words' numbers in the roll, its relation, the record
   -- last written and the number
-  pub record Answers (s : State L R) (e : Entry S R) : Type 0 where
+  pub record Answers (s : State L R) (e : PresentTriple S R) : Type 0 where
     pub a : ℕ
     pub b : ℕ
     pub x_number : number_in K s.list e.x ≡ Some a
@@ -58,16 +66,16 @@ module _ {S L R : Type 0} (K : Kit S L R) where
     pub find : find_of K s.list s.table e.x e.y e.relation ≡ Ok (Some (record { x = a; y = b; number = e.link }))
 
   -- what listing a word answers: a row for each of its entries that is asked for, and no other row
-  pub record Listing (s : State L R) (es : List (Entry S R)) (x : List S) (q : ℕ) : Type 0 where
+  pub record Listing (s : State L R) (es : List (PresentTriple S R)) (x : List S) (q : ℕ) : Type 0 where
     pub rows : (r : LinkRow) → In (rows_in K s.list s.table x q) r
-        → (e : Entry S R) × In (entries_of K es x q) e × (r.relation ≡ e.relation) × (number_in K s.list e.y ≡ Some r.y) × (r.link ≡ e.link)
-    pub entries : (e : Entry S R) → In (entries_of K es x q) e
+        → (e : PresentTriple S R) × In (entries_of K es x q) e × (r.relation ≡ e.relation) × (number_in K s.list e.y ≡ Some r.y) × (r.link ≡ e.link)
+    pub entries : (e : PresentTriple S R) → In (entries_of K es x q) e
         → (r : LinkRow) × In (rows_in K s.list s.table x q) r × (r.relation ≡ e.relation) × (number_in K s.list e.y ≡ Some r.y) × (r.link ≡ e.link)
     pub as_many : length (rows_in K s.list s.table x q) ≡ length (entries_of K es x q)
 
   -- the next call is accepted unless a refusal listed for it applies, judged by the roll and the present triples, room by the list and
   -- a place by the cells
-  pub record Next (es : List (Entry S R)) (s : State L R) : Type 0 where
+  pub record Next (es : List (PresentTriple S R)) (s : State L R) : Type 0 where
     pub add : (room : L → List ℕ → Bool) (x y : List S) (q : ℕ) (r : R) (n : Result Link Refusal) (t : State L R) → (a : Adds K (any_growth room) s x y q r n t)
         → Unless (first (add_refusals x y q (K.good r) (lacks K (any_growth room) s.list x) (lacks K (any_growth room) a.mid y) (link_refusals (has_triple K es x y q) (length es == limit s.table) (place_in K a.last s.table x y q)))) n
     pub tie : (x y : List S) (q : ℕ) (r : R) (n : Result Link Refusal) (t : State L R) → Ties K s x y q r n t
@@ -88,20 +96,17 @@ module _ {S L R : Type 0} (K : Kit S L R) where
     -- the link numbers handed out and not since taken back are those of the present triples, no two alike
     pub numbers : handed h ≡ map (λ e. e.link) (present K h)
     pub unlike : Apart (handed h)
-    -- figures counts the present triples, which are the accepted adds and ties less the accepted deletes
-    pub figure : (figures_of s.table).triples ≡ length (present K h)
+    -- figures counts the present triples, which are the accepted adds and ties less the accepted deletes, and the cells in use
+    pub figure : figures_of s.table ≡ record { triples = length (present K h); cells = in_use (cells_of s.table.array) }
     pub tally : length (present K h) + deletes h ≡ puts h
     -- no two entries are of one triple
-    pub once : (e f : Entry S R) → In (present K h) e → In (present K h) f → same_triple K f.x f.y f.relation e ≡ true → e ≡ f
+    pub once : (e f : PresentTriple S R) → In (present K h) e → In (present K h) f → same_triple K f.x f.y f.relation e ≡ true → e ≡ f
     -- the record of each entry is sound
-    pub sound : (e : Entry S R) → In (present K h) e → K.good e.kept ≡ true
+    pub sound : (e : PresentTriple S R) → In (present K h) e → K.good e.kept ≡ true
     -- each of them is read by its number and found by its words
-    pub answers : (e : Entry S R) → In (present K h) e → Answers s e
-    -- in an array of two cells or more the cells in use are one more than the different non-empty beginnings of the present codes
-    pub in_use : 2 ≤ length (cells_of s.table.array) → (figures_of s.table).cells ≡ 1 + length (beginnings (map (code_in s.list) (present K h)))
-    -- walking finds exactly the present codes, each with its number
-    pub walks : (p : List ℕ) (u : ℕ) → number_at (cells_of s.table.array) p ≡ Some u → (e : Entry S R) × In (present K h) e × (path_of_labels (code_in s.list e) ≡ p) × (e.link ≡ u)
-    pub walked : (e : Entry S R) → In (present K h) e → number_at (cells_of s.table.array) (path_of_labels (code_in s.list e)) ≡ Some e.link
+    pub answers : (e : PresentTriple S R) → In (present K h) e → Answers s e
+    -- the link cells hold the codes of the present triples and nothing else
+    pub codes : CodesInCells (code_in s.list) (cells_of s.table.array) (present K h)
     -- listing a known word gives its entries
     pub lists : (x : List S) (q : ℕ) (a : ℕ) → number_in K s.list x ≡ Some a → Listing s (present K h) x q
     pub next : Next (present K h) s

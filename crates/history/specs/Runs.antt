@@ -3,7 +3,7 @@ use Rattle.std.specs.Prelude.{ℕ, suc, Bool, true, false, cond, not, ◌&&◌, 
 use Rattle.std.specs.Str.{bytes_eq}
 use Rattle.refusal.specs.declared.Refusal.{Refusal}
 use Rattle.lexicon.specs.Rolls.{Lawful}
-use Rattle.link_table.specs.Tables.{Made}
+use Rattle.link_table.specs.Tables.{IsNewTable}
 use Rattle.link_table.specs.declared.table.LinkTable.{LinkTable}
 use Rattle.listing.specs.declared.row.LinkRow.{LinkRow}
 use Rattle.history.specs.declared.replies.Reply.{Reply}
@@ -24,15 +24,15 @@ abbrev pub History : Type 0 → Type 0 → Type 0
 History S R = List (Event S R)
 
 -- a present triple with its link number and the record last written
-pub record Entry (S R : Type 0) : Type 0 where
+pub record PresentTriple (S R : Type 0) : Type 0 where
   pub x : List S
   pub y : List S
   pub relation : ℕ
   pub link : ℕ
   pub kept : R
 
-abbrev pub entry_of : {S R : Type 0} → List S → List S → ℕ → ℕ → R → Entry S R
-entry_of w v q u r = record { x = w; y = v; relation = q; link = u; kept = r }
+abbrev pub present_triple : {S R : Type 0} → List S → List S → ℕ → ℕ → R → PresentTriple S R
+present_triple w v q u r = record { x = w; y = v; relation = q; link = u; kept = r }
 
 -- the link number that an answer hands out
 abbrev pub handed_by : {R : Type 0} → Result (Reply R) Refusal → Option ℕ
@@ -61,25 +61,25 @@ abbrev pub same_word : {S L R : Type 0} → Kit S L R → List S → List S → 
 same_word K x y = bytes_eq (labels_of K x) (labels_of K y)
 
 -- whether the entry is of this triple
-abbrev pub same_triple : {S L R : Type 0} → Kit S L R → List S → List S → ℕ → Entry S R → Bool
+abbrev pub same_triple : {S L R : Type 0} → Kit S L R → List S → List S → ℕ → PresentTriple S R → Bool
 same_triple K x y q e = same_word K e.x x && (same_word K e.y y && e.relation == q)
 
 -- the triples with the one that was handed a link number
-abbrev pub put_in : {S R : Type 0} → List S → List S → ℕ → R → Option ℕ → List (Entry S R) → List (Entry S R)
+abbrev pub put_in : {S R : Type 0} → List S → List S → ℕ → R → Option ℕ → List (PresentTriple S R) → List (PresentTriple S R)
 put_in x y q r None es = es
-put_in x y q r (Some u) es = entry_of x y q u r ∷ es
+put_in x y q r (Some u) es = present_triple x y q u r ∷ es
 
 -- the triples without this one, if it was accepted that it be taken out
-abbrev pub taken_out : {S L R : Type 0} → Kit S L R → List S → List S → ℕ → Bool → List (Entry S R) → List (Entry S R)
+abbrev pub taken_out : {S L R : Type 0} → Kit S L R → List S → List S → ℕ → Bool → List (PresentTriple S R) → List (PresentTriple S R)
 taken_out K x y q false es = es
 taken_out K x y q true es = filter (λ e. not (same_triple K x y q e)) es
 
 -- the entry with the record r if its link number is u
-abbrev pub rewritten : {S R : Type 0} → ℕ → R → Entry S R → Entry S R
-rewritten u r e = cond (e.link == u) (entry_of e.x e.y e.relation e.link r) e
+abbrev pub rewritten : {S R : Type 0} → ℕ → R → PresentTriple S R → PresentTriple S R
+rewritten u r e = cond (e.link == u) (present_triple e.x e.y e.relation e.link r) e
 
 -- the triples with the record r given to the one that has the link number u, if that was accepted
-abbrev pub given : {S R : Type 0} → ℕ → R → Bool → List (Entry S R) → List (Entry S R)
+abbrev pub given : {S R : Type 0} → ℕ → R → Bool → List (PresentTriple S R) → List (PresentTriple S R)
 given u r false es = es
 given u r true es = map (rewritten u r) es
 
@@ -102,18 +102,18 @@ effect_of (list x q) = quiet
 effect_of figures = quiet
 
 -- the triples after an effect that was answered n
-abbrev pub present_by : {S L R : Type 0} → Kit S L R → Effect S R → Result (Reply R) Refusal → List (Entry S R) → List (Entry S R)
+abbrev pub present_by : {S L R : Type 0} → Kit S L R → Effect S R → Result (Reply R) Refusal → List (PresentTriple S R) → List (PresentTriple S R)
 present_by K quiet n es = es
 present_by K (puts_in x y q r) n es = put_in x y q r (handed_by n) es
 present_by K (takes_out x y q) n es = taken_out K x y q (is_ok n) es
 present_by K (gives u r) n es = given u r (is_ok n) es
 
 -- the triples after a call that was answered n
-abbrev pub present_after : {S L R : Type 0} → Kit S L R → Call S R → Result (Reply R) Refusal → List (Entry S R) → List (Entry S R)
+abbrev pub present_after : {S L R : Type 0} → Kit S L R → Call S R → Result (Reply R) Refusal → List (PresentTriple S R) → List (PresentTriple S R)
 present_after K c n es = present_by K (effect_of c) n es
 
 -- the triples that are present after a history, by its arguments and answers alone
-abbrev pub present : {S L R : Type 0} → Kit S L R → History S R → List (Entry S R)
+abbrev pub present : {S L R : Type 0} → Kit S L R → History S R → List (PresentTriple S R)
 present K [] = []
 present K (e ∷ h) = present_after K e.call e.answer (present K h)
 
@@ -181,5 +181,5 @@ deletes (e ∷ h) = delete_after e.call (is_ok e.answer) (deletes h)
 -- the histories that lead from a new store to a state. A store is new when its link table was made for its records; its list
 -- may hold words. Each call keeps its rule, refused ones too, whichever words have room and whatever the list's own arrays hold
 pub data Reached {S L R : Type 0} (K : Kit S L R) : History S R → State L R → Type 0 where
-  new : {l : L} {t : LinkTable} {rs : List R} {n k : ℕ} → Lawful (K.roll l) → Made n k (length rs) t → Reached K [] (state_of l t rs)
+  new : {l : L} {t : LinkTable} {rs : List R} {n k : ℕ} → Lawful (K.roll l) → IsNewTable n k (length rs) t → Reached K [] (state_of l t rs)
   after : {h : History S R} {s t : State L R} {c : Call S R} {n : Result (Reply R) Refusal} (room : L → List ℕ → Bool) (out out' : List LinkRow) → Reached K h s → Steps K (any_growth room) s out c n t out' → Reached K (event_of c n ∷ h) t

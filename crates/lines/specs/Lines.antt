@@ -93,13 +93,13 @@ share_line (Err f) = refused_text f
 
 -- the call was made in s by its rule, answered n and left t; and of every history that led to s it leads on to one that leads to
 -- t, of which the law holds
-abbrev pub Made : Store → Call ℕ Tally → Result (Reply Tally) Refusal → Store → Type 0
-Made s c n t =
+abbrev pub MakesCall : Store → Call ℕ Tally → Result (Reply Tally) Refusal → Store → Type 0
+MakesCall s c n t =
     ((out out' : List LinkRow) × Steps trie_tally_kit trie_growth s out c n t out') × Onward trie_tally_kit s c n t
 
 -- the call was made, and `text` says that it is done or refused
 abbrev pub Done : Store → Call ℕ Tally → List ℕ → Store → Type 0
-Done s c text t = (n : Result (Reply Tally) Refusal) × Made s c n t × (text ≡ done_line n)
+Done s c text t = (n : Result (Reply Tally) Refusal) × MakesCall s c n t × (text ≡ done_line n)
 
 -- a share was answered in s by its rule, it is the share in the counts of the triples that are present after every history that led to
 -- s, and `text` is printed
@@ -115,9 +115,9 @@ Carried s (Some (add x y q c)) text t = Done s (call.add x y q (tally c)) text t
 Carried s (Some (tie x y q c)) text t = Done s (call.tie x y q (tally c)) text t
 Carried s (Some (delete x y q)) text t = Done s (call.delete x y q) text t
 Carried s (Some (find x y q)) text t =
-    ((n : Result (Reply Tally) Refusal) × Made s (call.find x y q) n t) × (text ≡ found_line s.records (find_of trie_tally_kit s.list s.table x y q)) × (t ≡ s)
+    ((n : Result (Reply Tally) Refusal) × MakesCall s (call.find x y q) n t) × (text ≡ found_line s.records (find_of trie_tally_kit s.list s.table x y q)) × (t ≡ s)
 Carried s (Some (list x q)) text t =
-    ((n : Result (Reply Tally) Refusal) × Made s (call.list x q) n t)
+    ((n : Result (Reply Tally) Refusal) × MakesCall s (call.list x q) n t)
     × (text ≡ listing_line (refusal_of_list trie_tally_kit s.list s.table x q 100) (map (row_of s.records) (rows_in trie_tally_kit s.list s.table x q)))
     × (t ≡ s)
 Carried s (Some (share x y q)) text t = Shared s x y q text × (t ≡ s)

@@ -11,7 +11,7 @@ use Rattle.cells.proofs.Climbs.{number_positive}
 use Rattle.cells.proofs.Numbers.{decides_same}
 use Rattle.double_array.specs.Spellings.{is_known, path_of}
 use Rattle.double_array.proofs.Spells.{named_of}
-use Rattle.link_table.specs.Numbers.{held, Numbered}
+use Rattle.link_table.specs.Numbers.{held_numbers, Numbered}
 use Rattle.link_table.proofs.Counts.{kept_more, kept_all}
 
 bool_same : (a b : Bool) → (a ≡ true → b ≡ true) → (b ≡ true → a ≡ true) → a ≡ b
@@ -71,7 +71,7 @@ module _ (cs xs : List Cell) (is js p : List ℕ) (u : ℕ) (before : Sound cs i
       (λ open_one. open_one)
       (cases_Bool (is_known is u))
 
-  pub held_more : length (held js) ≡ length (held is) + 1
+  pub held_more : length (held_numbers js) ≡ length (held_numbers is) + 1
   held_more =
       let low = number_low xs p u new_number in
       let high = number_high xs (length js) p u few' new_number in
@@ -79,7 +79,7 @@ module _ (cs xs : List Cell) (is js p : List ℕ) (u : ℕ) (before : Sound cs i
       ∙ ap (λ (n : ℕ). length (filter (is_known is) (range_with_len 1 n)) + 1) long
 
 -- no place is vacant: all numbers are held
-pub held_all : (is : List ℕ) → ((k : ℕ) → k < length is → 0 ≤ k → 0 < get_or is k 0) → length (held is) ≡ length is
+pub held_all : (is : List ℕ) → ((k : ℕ) → k < length is → 0 ≤ k → 0 < get_or is k 0) → length (held_numbers is) ≡ length is
 held_all is all =
     kept_all (is_known is) 1 (length is)
     (λ k low high. and_from (ltb 0 k) (ltb 0 (get_or is (k - 1) 0)) (lt-ltb 0 k (omega arith)) (lt-ltb 0 (get_or is (k - 1) 0) (all (k - 1) (omega arith) (omega arith))))

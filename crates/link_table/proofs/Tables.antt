@@ -32,7 +32,7 @@ use Rattle.double_array.proofs.Blocks.{Kind, unblocked}
 use Rattle.double_array.proofs.Refusals.{judged_by}
 use Rattle.double_array.proofs.Spells.{named_of}
 use Rattle.link_table.specs.Codes.{path_of_triple, triple_of, is_triple_path, Triples}
-use Rattle.link_table.specs.Numbers.{held, Numbered}
+use Rattle.link_table.specs.Numbers.{held_numbers, Numbered}
 use Rattle.link_table.specs.Tables.{limit, found, coded, numbers, all_held, has_place, Lawful, Put, Out, put_refusal, Puts}
 use Rattle.link_table.specs.declared.triple.Triple.{Triple}
 use Rattle.link_table.specs.declared.table.LinkTable.{LinkTable}
@@ -44,7 +44,7 @@ use Rattle.link_table.proofs.Holds.{number_low, number_high, new_number, known_b
 -- the ghost fields in their order
 abbrev pub Fields : DoubleArray → ℕ → Type 0
 Fields d count =
-    record { few : length (index_of d) ≤ 1048575; triples : Triples (cells_of d); numbered : Numbered (cells_of d) (length (index_of d)); counted : count ≡ length (held (index_of d)) }
+    record { few : length (index_of d) ≤ 1048575; triples : Triples (cells_of d); numbered : Numbered (cells_of d) (length (index_of d)); counted : count ≡ length (held_numbers (index_of d)) }
 
 -- two tables with the same array, count and cursor
 pub same_table : (s t : LinkTable) → s.array ≡ t.array → s.count ≡ t.count → s.cursor ≡ t.cursor → s ≡ t
@@ -55,7 +55,7 @@ same_table s t p q r = λ j. record {
   few = is_prop→PathP (λ k. length (index_of (p k)) ≤ 1048575) (λ k. le_prop) s.few t.few j;
   triples = is_prop→PathP (λ k. Triples (cells_of (p k))) (λ k. hlevel props) s.triples t.triples j;
   numbered = is_prop→PathP (λ k. Numbered (cells_of (p k)) (length (index_of (p k)))) (λ k. hlevel props) s.numbered t.numbered j;
-  counted = is_prop→PathP (λ k. q k ≡ length (held (index_of (p k)))) (λ k. ℕ_set _ _) s.counted t.counted j;
+  counted = is_prop→PathP (λ k. q k ≡ length (held_numbers (index_of (p k)))) (λ k. ℕ_set _ _) s.counted t.counted j;
 }
 
 -- a path that is held is a triple's
@@ -136,7 +136,7 @@ module _ (d : DoubleArray) (none : (p : List ℕ) → number_at (cells_of d) p �
   pub none_known : (u : ℕ) → is_known (index_of d) u ≡ false
   none_known u = and_right (ltb 0 u) (ltb 0 (get_or (index_of d) (u - 1) 0)) (le-ltb 0 (get_or (index_of d) (u - 1) 0) (omega (arith, zeros (u - 1))))
 
-  pub none_held : length (held (index_of d)) ≡ 0
+  pub none_held : length (held_numbers (index_of d)) ≡ 0
   none_held = kept_none (is_known (index_of d)) 1 (length (index_of d)) none_known
 
   pub new_fields : length (index_of d) ≤ 1048575 → Fields d 0
@@ -221,7 +221,7 @@ fives : (s : LinkTable) → Kind (cells_of s.array) Five
 fives s = record {
   some = λ none. omega arith;
   alone = λ p a q five more. omega (arith, length-append p (a ∷ q));
-  held = λ p n held. five_long p (s.triples p (ap is_some (held_number (cells_of s.array) p n held)));
+  held = λ p n held_numbers. five_long p (s.triples p (ap is_some (held_number (cells_of s.array) p n held_numbers)));
 }
 
 -- a triple is put: it is not present, and the place of its number is vacant
@@ -278,7 +278,7 @@ module _ (s : LinkTable) (triple : Triple) (place : ℕ) (codes : all_codes (pat
         (λ other. s.triples q (ap is_some (sym (added q ∙ cond-false (same_path q (path_of_triple triple)) (Some (place + 1)) (number_at (cells_of s.array) q) other)) ∙ some))
         (cases_Bool (same_path q (path_of_triple triple)))
 
-    put_held : length (held (index_of d)) ≡ length (held (index_of s.array)) + 1
+    put_held : length (held_numbers (index_of d)) ≡ length (held_numbers (index_of s.array)) + 1
     put_held =
         held_more (cells_of s.array) (cells_of d) (index_of s.array) (index_of d) (path_of_triple triple) (place + 1) s.array.sound d.sound s.numbered put_numbered long none added
 
@@ -343,7 +343,7 @@ module _ (s : LinkTable) (triple : Triple) (u : ℕ) (has : found s triple ≡ S
         (λ same. ap (number_at (cells_of s.array)) ((decides_same q (path_of_triple triple)).0 same) ∙ has)
         (λ other. sym (other_same q other))
 
-    pub take_held : length (held (index_of s.array)) ≡ length (held (index_of d)) + 1
+    pub take_held : length (held_numbers (index_of s.array)) ≡ length (held_numbers (index_of d)) + 1
     take_held =
         held_more (cells_of d) (cells_of s.array) (index_of d) (index_of s.array) (path_of_triple triple) u d.sound s.array.sound take_numbered s.numbered (sym long) gone back
 

@@ -7,8 +7,8 @@ use Rattle.cells.specs.Walking.{number_at}
 use Rattle.double_array.specs.Spellings.{is_known}
 
 -- the numbers that are held, in rising order
-abbrev pub held : List ℕ → List ℕ
-held is = filter (is_known is) (range_with_len 1 (length is))
+abbrev pub held_numbers : List ℕ → List ℕ
+held_numbers is = filter (is_known is) (range_with_len 1 (length is))
 
 -- the number of each held path is at most m
 abbrev pub Numbered : List Cell → ℕ → Type 0

@@ -11,7 +11,7 @@ use Rattle.cells.specs.Walking.{number_at}
 use Rattle.double_array.specs.Spellings.{is_known, path_of}
 use Rattle.double_array.specs.Views.{cells_of, index_of}
 use Rattle.link_table.specs.Codes.{path_of_triple, triple_of}
-use Rattle.link_table.specs.Numbers.{held}
+use Rattle.link_table.specs.Numbers.{held_numbers}
 use Rattle.link_table.specs.declared.triple.Triple.{Triple}
 use Rattle.link_table.specs.declared.table.LinkTable.{LinkTable}
 
@@ -29,7 +29,7 @@ coded s u = cond (is_known (index_of s.array) u) (Some (triple_of (path_of (cell
 
 -- the numbers that present triples have, in rising order
 abbrev pub numbers : LinkTable → List ℕ
-numbers s = held (index_of s.array)
+numbers s = held_numbers (index_of s.array)
 
 -- whether every number is held
 abbrev pub all_held : LinkTable → Bool
@@ -55,7 +55,7 @@ pub record Lawful (s : LinkTable) : Type 0 where
   pub only : (p : List ℕ) (u : ℕ) → number_at (cells_of s.array) p ≡ Some u → path_of_triple (triple_of p) ≡ p
 
 -- a table newly made of n cells, k index entries and so many records: every cell free but the root, every entry 0, and no triple
-pub record Made (n k records : ℕ) (s : LinkTable) : Type 0 where
+pub record IsNewTable (n k records : ℕ) (s : LinkTable) : Type 0 where
   pub cells_long : length (cells_of s.array) ≡ min n 1048576
   pub cells_clear : (j : ℕ) → j < length (cells_of s.array) → at (cells_of s.array) j ≡ cleared j
   pub limit_is : limit s ≡ min (min records k) 1048575

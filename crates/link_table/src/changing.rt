@@ -1,6 +1,6 @@
 // Making a link table, and putting and taking triples.
 ghost use Rattle.std.specs.Prelude.{vec_len};
-ghost use Rattle.link_table.specs.Tables.{Made, Puts, Takes};
+ghost use Rattle.link_table.specs.Tables.{IsNewTable, Puts, Takes};
 
 use super::codes::write_code;
 use super::faults::LinkFault;
@@ -18,7 +18,7 @@ impl LinkTable {
     // many records. Link numbers go up to the shorter of index and records; the rest of the index is
     // given up, and so are cells past 1,048,576.
     pub fn new(cells: Vec<Cell>, mut index: Vec<u32>, records: usize) -> LinkTable
-        ensures { Made (vec_len cells) (vec_len index) records result }
+        ensures { IsNewTable (vec_len cells) (vec_len index) records result }
     {
         index.truncate(records.min(Self::MAX_LINKS));
         LinkTable {

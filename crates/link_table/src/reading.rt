@@ -1,7 +1,7 @@
 // What a link table answers without a change.
 ghost use Rattle.std.specs.Prelude.{◌≡◌, length};
 ghost use Rattle.cells.specs.Counting.{in_use};
-ghost use Rattle.double_array.specs.Outcomes.{Counted};
+ghost use Rattle.double_array.specs.Outcomes.{CountsBeginnings};
 ghost use Rattle.double_array.specs.Views.{cells_of, index_of};
 ghost use Rattle.link_table.specs.Tables.{limit as limit_of, found, coded, numbers, Lawful};
 
@@ -45,7 +45,7 @@ impl LinkTable {
     // codes, in an array of two cells or more.
     pub fn in_use(&self) -> usize
         ensures cells { result ≡ in_use (cells_of self.now.array) }
-        ensures paths { Counted (cells_of self.now.array) result }
+        ensures paths { CountsBeginnings (cells_of self.now.array) result }
     {
         self.array.in_use()
     }

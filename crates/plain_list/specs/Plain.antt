@@ -21,7 +21,7 @@ room_of s word =
     && nat_le (length word) (min (vec_len s.bytes) 8388608 - bytes_in (roll_of s))
 
 -- a list newly made: the arrays as they were given, and no word
-pub record Made (bytes lengths : Vec ℕ Global) (s : PlainList) : Type 0 where
+pub record IsNewPlainList (bytes lengths : Vec ℕ Global) (s : PlainList) : Type 0 where
   pub bytes_same : s.bytes ≡ bytes
   pub lengths_same : s.lengths ≡ lengths
   pub no_words : roll_of s ≡ []

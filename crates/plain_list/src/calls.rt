@@ -2,7 +2,7 @@
 ghost use Rattle.std.specs.Prelude.{◌≡◌, ◌<◌, true, [], ◌∷◌, ◌++◌, slice_index_or};
 ghost use Rattle.lexicon.specs.Rolls.{number_of};
 ghost use Rattle.lexicon.specs.Answers.{is_new};
-ghost use Rattle.plain_list.specs.Plain.{roll_of, room_of, Made, Appended};
+ghost use Rattle.plain_list.specs.Plain.{roll_of, room_of, IsNewPlainList, Appended};
 
 use super::list::PlainList;
 use super::search;
@@ -14,7 +14,7 @@ const MAX_BYTES: usize = 8_388_608;
 impl PlainList {
     // A list of no word over the two arrays. They may hold anything and stay as they are.
     pub fn new(bytes: Vec<u8>, lengths: Vec<u8>) -> PlainList
-        ensures { Made bytes lengths result }
+        ensures { IsNewPlainList bytes lengths result }
     {
         PlainList {
             bytes,

@@ -14,7 +14,7 @@ use Rattle.history.specs.declared.replies.Link.{Link}
 use Rattle.history.specs.Kits.{Kit, state_of, labels_of, number_in, triple_in}
 use Rattle.history.specs.Refusals.{first, none, word_refusals, sought_refusals}
 use Rattle.history.specs.Calls.{answered, link_in, held_in, refusal_of_sought}
-use Rattle.history.specs.Runs.{Entry, same_word, same_triple, present}
+use Rattle.history.specs.Runs.{PresentTriple, same_word, same_triple, present}
 use Rattle.history.specs.Laws.{Unless}
 use Rattle.history.proofs.Members.{kept_map}
 use Rattle.history.proofs.Options.{none_applies, applies_none}
@@ -25,32 +25,32 @@ use Rattle.history.proofs.Runs.{held_is, law_of}
 use Rattle.store.specs.Links.{link_answer}
 use Rattle.share.specs.Rounding.{share_of}
 use Rattle.share.specs.Shares.{count_of, count_at, present_in, share_answer}
-use Rattle.share.specs.Totals.{Counted, total_of}
+use Rattle.share.specs.Totals.{CountedTriple, total_of}
 use Rattle.share.specs.Laws.{counted, ShareLaw}
 use Rattle.share.proofs.Present.{rows_total}
 use Rattle.share.proofs.Sums.{sum_map}
 
 -- the total is the sum of the counts of the entries that have the word and the relation
-total_entries : {S L : Type 0} (K : Kit S L Tally) (es : List (Entry S Tally)) (x : List S) (q : ℕ)
+total_entries : {S L : Type 0} (K : Kit S L Tally) (es : List (PresentTriple S Tally)) (x : List S) (q : ℕ)
     → total_of (same_word K) (map counted es) x q ≡ sum_by (λ e. e.kept.count) (filter (λ e. same_word K e.x x && eqb e.relation q) es)
 total_entries {S} K es x q =
-    let has : Counted (List S) → Bool = λ c. same_word K c.x x && eqb c.relation q in
-    let asked : Entry S Tally → Bool = λ e. has (counted e) in
-    ap (sum_by (λ (c : Counted (List S)). c.count)) (kept_map counted has asked es (λ e i. refl)) ∙ sum_map counted (λ (c : Counted (List S)). c.count) (filter asked es)
+    let has : CountedTriple (List S) → Bool = λ c. same_word K c.x x && eqb c.relation q in
+    let asked : PresentTriple S Tally → Bool = λ e. has (counted e) in
+    ap (sum_by (λ (c : CountedTriple (List S)). c.count)) (kept_map counted has asked es (λ e i. refl)) ∙ sum_map counted (λ (c : CountedTriple (List S)). c.count) (filter asked es)
 
 -- the count of an entry of the triple is a part of it
-part_of_entries : {S L : Type 0} (K : Kit S L Tally) (es : List (Entry S Tally)) (x y : List S) (q : ℕ) (e : Entry S Tally) → In es e → same_triple K x y q e ≡ true
+part_of_entries : {S L : Type 0} (K : Kit S L Tally) (es : List (PresentTriple S Tally)) (x y : List S) (q : ℕ) (e : PresentTriple S Tally) → In es e → same_triple K x y q e ≡ true
     → e.kept.count ≤ total_of (same_word K) (map counted es) x q
 part_of_entries {S} K es x y q e i same =
-    let asked : Entry S Tally → Bool = λ d. same_word K d.x x && eqb d.relation q in
+    let asked : PresentTriple S Tally → Bool = λ d. same_word K d.x x && eqb d.relation q in
     let one = and_parts (same_word K e.x x) (same_word K e.y y && eqb e.relation q) same in
     let two = and_parts (same_word K e.y y) (eqb e.relation q) one.1 in
     let there = in_kept asked es e (and_from (same_word K e.x x) (eqb e.relation q) one.0 two.1) i in
-    subst (λ (n : ℕ). e.kept.count ≤ n) (sym (total_entries K es x q)) (part_of_sum (λ (d : Entry S Tally). d.kept.count) (filter asked es) e there)
+    subst (λ (n : ℕ). e.kept.count ≤ n) (sym (total_entries K es x q)) (part_of_sum (λ (d : PresentTriple S Tally). d.kept.count) (filter asked es) e there)
 
-module _ {S L : Type 0} (K : Kit S L Tally) {es : List (Entry S Tally)} {us : List ℕ} {l : L} {t : LinkTable} {records : List Tally} (F : Fits K es us l t records) where
+module _ {S L : Type 0} (K : Kit S L Tally) {es : List (PresentTriple S Tally)} {us : List ℕ} {l : L} {t : LinkTable} {records : List Tally} (F : Fits K es us l t records) where
   -- the count at an entry's number is its own
-  count_is : (e : Entry S Tally) → In es e → count_at records e.link ≡ e.kept.count
+  count_is : (e : PresentTriple S Tally) → In es e → count_at records e.link ≡ e.kept.count
   count_is e i = ap count_of (F.stands e i).kept
 
   -- the total of a known word and a relation, over the present triples of the table, is that over the entries
@@ -74,7 +74,7 @@ module _ {S L : Type 0} (K : Kit S L Tally) (apart : WordsApart K.spelling) (goo
   refusal = refusal_of_sought K l t x y q
 
   -- the link of an entry of the triple is not refused, and it is answered
-  link_is : {es : List (Entry S Tally)} {us : List ℕ} (F : Fits K es us l t records) (e : Entry S Tally) → In es e → same_triple K x y q e ≡ true
+  link_is : {es : List (PresentTriple S Tally)} {us : List ℕ} (F : Fits K es us l t records) (e : PresentTriple S Tally) → In es e → same_triple K x y q e ≡ true
       → (link_answer K l t x y q ≡ Ok (link_in K l x y e.link)) × (eqb q 0 ≡ false) × ((a : ℕ) × (number_in K l x ≡ Some a))
   link_is F e i same =
       let one = and_parts (same_word K e.x x) (same_word K e.y y && eqb e.relation q) same in

@@ -16,11 +16,11 @@ use Rattle.listing.proofs.Members.{bounds, below_in, below_known}
 use Rattle.listing.proofs.Orders.{below_rising}
 use Rattle.history.proofs.Listings.{rising_apart, row_same}
 use Rattle.share.specs.Shares.{count_at, sum_at, counted_as, present_in}
-use Rattle.share.specs.Totals.{Counted, total_of}
+use Rattle.share.specs.Totals.{CountedTriple, total_of}
 
 module _ (t : LinkTable) (records : List Tally) (x k : ℕ) where
   -- whether a present triple has the word and the relation
-  abbrev has : Counted ℕ → Bool
+  abbrev has : CountedTriple ℕ → Bool
   has c = eqb c.x x && eqb c.relation k
 
   -- whether there is a triple that has them
@@ -29,13 +29,13 @@ module _ (t : LinkTable) (records : List Tally) (x k : ℕ) where
   there (Some c) = eqb c.x x && eqb c.relation k
 
   -- one number more, by what it is the number of
-  one_more : (o : Option Triple) (u : ℕ) (cs : List (Counted ℕ)) (us : List ℕ) → sum_by (λ c. c.count) (filter has cs) ≡ sum_by (count_at records) us
+  one_more : (o : Option Triple) (u : ℕ) (cs : List (CountedTriple ℕ)) (us : List ℕ) → sum_by (λ c. c.count) (filter has cs) ≡ sum_by (count_at records) us
       → sum_by (λ c. c.count) (filter has (cons_option (counted_as o (count_at records u)) cs)) ≡ sum_by (count_at records) (cond (there o) (u ∷ us) us)
   one_more None u cs us e = e
   one_more (Some c) u cs us e = kept (there (Some c))
     where
-      kept : (b : Bool) → sum_by (λ (d : Counted ℕ). d.count) (cond b (record { x = c.x; relation = c.relation; count = count_at records u } ∷ filter has cs) (filter has cs)) ≡ sum_by (count_at records) (cond b (u ∷ us) us)
-      kept true = sum_by-cons (λ (d : Counted ℕ). d.count) (record { x = c.x; relation = c.relation; count = count_at records u }) (filter has cs) ∙ ap (λ (n : ℕ). count_at records u + n) e ∙ sym (sum_by-cons (count_at records) u us)
+      kept : (b : Bool) → sum_by (λ (d : CountedTriple ℕ). d.count) (cond b (record { x = c.x; relation = c.relation; count = count_at records u } ∷ filter has cs) (filter has cs)) ≡ sum_by (count_at records) (cond b (u ∷ us) us)
+      kept true = sum_by-cons (λ (d : CountedTriple ℕ). d.count) (record { x = c.x; relation = c.relation; count = count_at records u }) (filter has cs) ∙ ap (λ (n : ℕ). count_at records u + n) e ∙ sym (sum_by-cons (count_at records) u us)
       kept false = e
 
   -- the total is the sum of the counts at the numbers whose triples have the word and the relation

@@ -9,7 +9,7 @@ use Rattle.link_table.specs.declared.triple.Triple.{Triple}
 use Rattle.listing.specs.declared.row.LinkRow.{LinkRow}
 use Rattle.history.specs.declared.replies.Link.{Link}
 use Rattle.share.specs.Rounding.{share_of}
-use Rattle.share.specs.Totals.{Counted, total_of}
+use Rattle.share.specs.Totals.{CountedTriple, total_of}
 
 -- the count of a tally, 0 of none
 abbrev pub count_of : Option Tally → ℕ
@@ -25,12 +25,12 @@ abbrev pub sum_at : List Tally → List LinkRow → ℕ
 sum_at records rows = sum_by (λ r. count_at records r.link) rows
 
 -- a triple in word numbers, with a count; none where there is none
-abbrev pub counted_as : Option Triple → ℕ → Option (Counted ℕ)
+abbrev pub counted_as : Option Triple → ℕ → Option (CountedTriple ℕ)
 counted_as None n = None
 counted_as (Some c) n = Some (record { x = c.x; relation = c.relation; count = n })
 
 -- the present triples of a table, in word numbers, each with the count at its link number
-abbrev pub present_in : LinkTable → List Tally → List (Counted ℕ)
+abbrev pub present_in : LinkTable → List Tally → List (CountedTriple ℕ)
 present_in t records = filter_map (λ u. counted_as (coded t u) (count_at records u)) (numbers t)
 
 -- the share of the triple whose link was sought, or the refusal

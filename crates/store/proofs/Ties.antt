@@ -16,7 +16,7 @@ use Rattle.history.specs.Kits.{Kit, state_of, number_in, triple_in}
 use Rattle.history.specs.Refusals.{first, none, word_refusals, unknown_refusals, put_refusals, link_refusals}
 use Rattle.history.specs.Calls.{Decided, LinkMade, held_in, links_in, refusal_of_tie, Ties, refusal_of_sought, Deletes, answered, link_by, link_in, find_of}
 use Rattle.store.specs.declared.labels.WordPair.{WordPair}
-use Rattle.store.specs.Words.{labels_in, Holds, KnownTriple}
+use Rattle.store.specs.Words.{labels_in, IsSpelledPair, KnownTriple}
 use Rattle.store.specs.Links.{Joins, JoinsAt, link_answer}
 use Rattle.store.proofs.Decisions.{first_on, first_out, decided_err, decided_ok}
 
@@ -85,14 +85,14 @@ module _ {S L R : Type 0} (K : Kit S L R) (l : L) (t : LinkTable) (rs : List R) 
       (first_on (put_refusals x y q (K.good r)) (unknowns ++ links_in K l t x y q) fit ∙ first_on unknowns (links_in K l t x y q) (known_none K l x y ex ey)) h
 
 -- what is known of the labels of words is known of the words
-pub known_words : {S L R : Type 0} (K : Kit S L R) (l : L) (x y : List S) (q : ℕ) (p : WordPair) (n : Result Triple Refusal) → Holds K.spelling x y p
+pub known_words : {S L R : Type 0} (K : Kit S L R) (l : L) (x y : List S) (q : ℕ) (p : WordPair) (n : Result Triple Refusal) → IsSpelledPair K.spelling x y p
     → KnownTriple (number_of (K.roll l) (labels_in p.x)) (number_of (K.roll l) (labels_in p.y)) q n → KnownTriple (number_in K l x) (number_in K l y) q n
 known_words K l x y q p n holds k =
     subst (λ (w : List ℕ). KnownTriple (number_in K l x) (number_of (K.roll l) w) q n) holds.1
     (subst (λ (w : List ℕ). KnownTriple (number_of (K.roll l) w) (number_of (K.roll l) (labels_in p.y)) q n) holds.0 k)
 
 -- find, of words that the list has
-pub find_known : {S L R : Type 0} (K : Kit S L R) (l : L) (t : LinkTable) (x y : List S) (q : ℕ) (p : WordPair) → first (word_refusals x y q) ≡ None → Holds K.spelling x y p
+pub find_known : {S L R : Type 0} (K : Kit S L R) (l : L) (t : LinkTable) (x y : List S) (q : ℕ) (p : WordPair) → first (word_refusals x y q) ≡ None → IsSpelledPair K.spelling x y p
     → (a b : ℕ) → Some a ≡ number_of (K.roll l) (labels_in p.x) → Some b ≡ number_of (K.roll l) (labels_in p.y)
     → find_of K l t x y q ≡ Ok (link_by K (Some a) (Some b) (found t (record { x = a; relation = q; y = b })))
 find_known K l t x y q p fit holds a b ea eb =

@@ -22,17 +22,17 @@ Spelt spelling word side (Ok w) = (word_sized word ≡ true) × (labels_in w ≡
 Spelt spelling word side (Err e) = (word_sized word ≡ false) × (e ≡ WordLength side)
 
 -- the pair holds the labels of both words
-abbrev pub Holds : {S : Type 0} → (S → List ℕ) → List S → List S → WordPair → Type 0
-Holds spelling x y p = (labels_in p.x ≡ spelled spelling x) × (labels_in p.y ≡ spelled spelling y)
+abbrev pub IsSpelledPair : {S : Type 0} → (S → List ℕ) → List S → List S → WordPair → Type 0
+IsSpelledPair spelling x y p = (labels_in p.x ≡ spelled spelling x) × (labels_in p.y ≡ spelled spelling y)
 
 -- both words were spelled and the relation is not 0, or the first refusal that applies
 abbrev pub PairSpelt : {S : Type 0} → (S → List ℕ) → List S → List S → ℕ → Result WordPair Refusal → Type 0
-PairSpelt spelling x y q (Ok p) = (first (word_refusals x y q) ≡ None) × Holds spelling x y p
+PairSpelt spelling x y q (Ok p) = (first (word_refusals x y q) ≡ None) × IsSpelledPair spelling x y p
 PairSpelt spelling x y q (Err e) = first (word_refusals x y q) ≡ Some e
 
 -- the same with a record that is to be sound
 abbrev pub Admitted : {S : Type 0} → (S → List ℕ) → List S → List S → ℕ → Bool → Result WordPair Refusal → Type 0
-Admitted spelling x y q good (Ok p) = (first (put_refusals x y q good) ≡ None) × Holds spelling x y p
+Admitted spelling x y q good (Ok p) = (first (put_refusals x y q good) ≡ None) × IsSpelledPair spelling x y p
 Admitted spelling x y q good (Err e) = first (put_refusals x y q good) ≡ Some e
 
 -- the triple of two words that have the numbers a and b, or the first of them that has none

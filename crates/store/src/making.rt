@@ -1,6 +1,6 @@
 // Making the link table of a store.
 ghost use Rattle.std.specs.Prelude.{◌≡◌, [], length, vec_len};
-ghost use Rattle.link_table.specs.Tables.{Made};
+ghost use Rattle.link_table.specs.Tables.{IsNewTable};
 ghost use Rattle.history.specs.Kits.{kit_of, state_of};
 ghost use Rattle.history.specs.Runs.{Reached};
 ghost use Rattle.history.specs.Laws.{Law};
@@ -22,7 +22,7 @@ impl RelationTable {
         cells: Vec<Cell>,
         index: Vec<u32>,
     ) -> RelationTable
-        ensures made { Made (vec_len cells) (vec_len index) (length records.now) result }
+        ensures made { IsNewTable (vec_len cells) (vec_len index) (length records.now) result }
         ensures start { Reached (kit_of S.Script L.ReadableList R.Record) [] (state_of list.now result records.now) }
         ensures law { Law (kit_of S.Script L.ReadableList R.Record) [] (state_of list.now result records.now) }
     {

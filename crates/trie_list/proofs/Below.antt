@@ -15,31 +15,31 @@ use Rattle.double_array.specs.Views.{cells_of, index_of}
 use Rattle.output.specs.Written.{fits, written, Filled}
 use Rattle.subtrie.specs.Order.{Before}
 use Rattle.subtrie.specs.Laws.{Members, Ordered}
-use Rattle.trie_list.specs.Paths.{path_of}
+use Rattle.trie_list.specs.Paths.{path_of_word}
 use Rattle.trie_list.specs.Below.{below_of, WordsBelow}
 use Rattle.trie_list.specs.Trie.{roll_of}
 use Rattle.trie_list.specs.declared.list.TrieList.{TrieList}
 use Rattle.trie_list.proofs.Lists.{length_roll, roll_lawful, walked}
 
 -- the path of a word that begins so
-path_begins : (b q : List ℕ) → path_of (b ++ q) ≡ path_of_labels b ++ path_of q
+path_begins : (b q : List ℕ) → path_of_word (b ++ q) ≡ path_of_labels b ++ path_of_word q
 path_begins b q = ap (λ (z : List ℕ). z ++ 1 ∷ []) (map-append label_code b q) ∙ append_assoc (path_of_labels b) (path_of_labels q) (1 ∷ [])
 
 heads : (a b : ℕ) (p q : List ℕ) → a ∷ p ≡ b ∷ q → (a ≡ b) × (p ≡ q)
 heads a b p q e = (cc, cc)
 
 -- a word whose path begins so begins so
-word_begins : (b r w : List ℕ) → path_of_labels b ++ r ≡ path_of w → (q : List ℕ) × (w ≡ b ++ q)
+word_begins : (b r w : List ℕ) → path_of_labels b ++ r ≡ path_of_word w → (q : List ℕ) × (w ≡ b ++ q)
 word_begins [] r w e = (w, refl)
 word_begins (c ∷ b) r [] e = absurd (omega (arith, (heads (c + 2) 1 (path_of_labels b ++ r) [] e).0))
 word_begins (c ∷ b) r (d ∷ w) e =
-    let parts = heads (c + 2) (d + 2) (path_of_labels b ++ r) (path_of w) e in
+    let parts = heads (c + 2) (d + 2) (path_of_labels b ++ r) (path_of_word w) e in
     let rest = word_begins b r w parts.1 in
     let same : d ≡ c = omega (arith, parts.0) in
     (rest.0, ap (λ (k : ℕ). k ∷ w) same ∙ ap (λ (z : List ℕ). c ∷ z) rest.1)
 
 -- the order of paths is that of words
-before_words : (v w : List ℕ) → Before (path_of v) (path_of w) → Before v w
+before_words : (v w : List ℕ) → Before (path_of_word v) (path_of_word w) → Before v w
 before_words [] [] (inl h) = omega arith
 before_words [] [] (inr h) = h.1
 before_words [] (b ∷ w) h = tt
@@ -57,13 +57,13 @@ module _ (s : TrieList) (b : List ℕ) (m : Members (cells_of s.array) (path_of_
       (found.0, word_begins b held.0 (word_of (roll_of s) u) found.1)
 
   -- the path of a number's word has the number
-  word_number : (u : ℕ) → numbered (roll_of s) u ≡ true → number_at (cells_of s.array) (path_of (word_of (roll_of s) u)) ≡ Some u
+  word_number : (u : ℕ) → numbered (roll_of s) u ≡ true → number_at (cells_of s.array) (path_of_word (word_of (roll_of s) u)) ≡ Some u
   word_number u some =
       let bounds = numbered_bounds (roll_of s) u some in
       (walked s).words (word_of (roll_of s) u) ∙ number_word (roll_of s) u (roll_lawful s) bounds.0 bounds.1
 
   all : (u : ℕ) (q : List ℕ) → numbered (roll_of s) u ≡ true → word_of (roll_of s) u ≡ b ++ q → In (below_of s b) u
-  all u q some e = m.all (path_of q) u (ap (number_at (cells_of s.array)) (sym (path_begins b q) ∙ ap path_of (sym e)) ∙ word_number u some)
+  all u q some e = m.all (path_of_word q) u (ap (number_at (cells_of s.array)) (sym (path_begins b q) ∙ ap path_of_word (sym e)) ∙ word_number u some)
 
   some_at : (i : ℕ) → i < length (below_of s b) → numbered (roll_of s) (get_or (below_of s b) i 0) ≡ true
   some_at i h = (begins (get_or (below_of s b) i 0) (in_at (below_of s b) i 0 h)).0
@@ -77,7 +77,7 @@ module _ (s : TrieList) (b : List ℕ) (m : Members (cells_of s.array) (path_of_
       let u = get_or (below_of s b) i 0 in
       let v = get_or (below_of s b) j 0 in
       before_words (word_of (roll_of s) u) (word_of (roll_of s) v)
-      (o.order i j (path_of (word_of (roll_of s) u)) (path_of (word_of (roll_of s) v)) h (low_at i low, low_at j h.1) (word_number u (some_at i low), word_number v (some_at j h.1)))
+      (o.order i j (path_of_word (word_of (roll_of s) u)) (path_of_word (word_of (roll_of s) v)) h (low_at i low, low_at j h.1) (word_number u (some_at i low), word_number v (some_at j h.1)))
 
   pub words_below : WordsBelow (roll_of s) b (below_of s b)
   words_below = record {

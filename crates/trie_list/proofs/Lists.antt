@@ -20,13 +20,13 @@ use Rattle.cells.specs.Placing.{Arrays, enter}
 use Rattle.cells.specs.Walking.{number_at}
 use Rattle.cells.proofs.Basics.{no_some, some_same}
 use Rattle.cells.proofs.Climbs.{number_held, held_number, number_positive, reach_codes}
-use Rattle.double_array.specs.Entries.{is_path, is_open, is_new, no_place, refusal}
+use Rattle.double_array.specs.Entries.{is_path, is_open, is_unblocked, no_place, refusal}
 use Rattle.double_array.specs.Spellings.{is_known, unwritten}
 use Rattle.double_array.specs.Views.{cells_of, index_of}
 use Rattle.double_array.proofs.Blocks.{Kind, unblocked}
 use Rattle.double_array.proofs.Refusals.{judged_by}
-use Rattle.trie_list.specs.Paths.{path_of, labels_of, ends_once, word_path}
-use Rattle.trie_list.specs.Rolls.{path_at, Numbered, Unnumbered, Counted, Worded}
+use Rattle.trie_list.specs.Paths.{path_of_word, labels_on, ends_once, word_path}
+use Rattle.trie_list.specs.Rolls.{path_at, Numbered, Unnumbered, NumbersWithin, Worded}
 use Rattle.trie_list.specs.Trie.{roll_of, room_of, Walked, Placed, Appends}
 use Rattle.trie_list.specs.declared.list.TrieList.{TrieList}
 use Rattle.trie_list.proofs.PathsLemmas.{length_path, word_path_size, path_codes, ends_path, ends_alone}
@@ -56,7 +56,7 @@ walked s = record {
   only = by;
 }
   where
-    by : (p : List ℕ) (u : ℕ) → number_at (cells_of s.array) p ≡ Some u → (numbered (roll_of s) u ≡ true) × (p ≡ path_of (word_of (roll_of s) u))
+    by : (p : List ℕ) (u : ℕ) → number_at (cells_of s.array) p ≡ Some u → (numbered (roll_of s) u ≡ true) × (p ≡ path_of_word (word_of (roll_of s) u))
     by p zero e = absurd (number_positive (cells_of s.array) p e)
     by p (suc n) e =
         let cs = cells_of s.array in
@@ -64,7 +64,7 @@ walked s = record {
         let found = number_path cs is s.count (listed s) p n e in
         let here : suc n - 1 ≡ n = omega arith in (
           and_from (nat_le 1 (suc n)) (nat_le (suc n) (length (roll_of s))) (le-leb 1 (suc n) (omega arith)) (le-leb (suc n) (length (roll_of s)) (omega (arith, found.0, length_roll s))),
-          sym found.1 ∙ sym (path_word cs is s.count (listed s) n found.0) ∙ ap path_of (sym (get_d_words cs is s.count (listed s) n found.0)) ∙ ap (λ (k : ℕ). path_of (slice_index_or (roll_of s) k [])) (sym here),
+          sym found.1 ∙ sym (path_word cs is s.count (listed s) n found.0) ∙ ap path_of_word (sym (get_d_words cs is s.count (listed s) n found.0)) ∙ ap (λ (k : ℕ). path_of_word (slice_index_or (roll_of s) k [])) (sym here),
         )
 
 -- two lists with the same array and the same count
@@ -76,7 +76,7 @@ same_list s t p q = λ j. record {
   few = is_prop→PathP (λ k. length (index_of (p k)) ≤ 65535) (λ k. le_prop) s.few t.few j;
   numbered = is_prop→PathP (λ k. Numbered (index_of (p k)) (q k)) (λ k. hlevel props) s.numbered t.numbered j;
   unnumbered = is_prop→PathP (λ k. Unnumbered (index_of (p k)) (q k)) (λ k. hlevel props) s.unnumbered t.unnumbered j;
-  counted = is_prop→PathP (λ k. Counted (cells_of (p k)) (q k)) (λ k. hlevel props) s.counted t.counted j;
+  counted = is_prop→PathP (λ k. NumbersWithin (cells_of (p k)) (q k)) (λ k. hlevel props) s.counted t.counted j;
   worded = is_prop→PathP (λ k. Worded (cells_of (p k)) (index_of (p k)) (q k)) (λ k. hlevel props) s.worded t.worded j;
 }
 
@@ -105,26 +105,26 @@ module _ (s : TrieList) (u : ℕ) (some : numbered (roll_of s) u ≡ true) where
       cond-true (is_known is u) (cond (nat_lt 129 (length (path_at cs is (u - 1)))) (Some Short) None) (Some Unknown) known
       ∙ cond-false (nat_lt 129 (length (path_at cs is (u - 1)))) (Some Short) None (le-ltb 129 (length (path_at cs is (u - 1))) size)
 
-  pub word_labels : labels_of (path_at (cells_of s.array) (index_of s.array) (u - 1)) ≡ word_of (roll_of s) u
+  pub word_labels : labels_on (path_at (cells_of s.array) (index_of s.array) (u - 1)) ≡ word_of (roll_of s) u
   word_labels = sym (get_d_words (cells_of s.array) (index_of s.array) s.count (listed s) (u - 1) low)
 
 -- whether there is room, by how many words are counted
 pub room_is : (s : TrieList) (w : List ℕ)
-    → room_of s w ≡ (nat_lt s.count (length (index_of s.array)) && is_some (enter (cells_of s.array) (index_of s.array) (path_of w) s.count))
+    → room_of s w ≡ (nat_lt s.count (length (index_of s.array)) && is_some (enter (cells_of s.array) (index_of s.array) (path_of_word w) s.count))
 room_is s w =
-    ap (λ (n : ℕ). nat_lt n (length (index_of s.array)) && is_some (enter (cells_of s.array) (index_of s.array) (path_of w) n)) (length_roll s)
+    ap (λ (n : ℕ). nat_lt n (length (index_of s.array)) && is_some (enter (cells_of s.array) (index_of s.array) (path_of_word w) n)) (length_roll s)
 
 -- there is none where each index place has its word
 pub room_full : (s : TrieList) (w : List ℕ) → length (index_of s.array) ≤ s.count → room_of s w ≡ false
 room_full s w full =
     room_is s w
-    ∙ and_left (nat_lt s.count (length (index_of s.array))) (is_some (enter (cells_of s.array) (index_of s.array) (path_of w) s.count))
+    ∙ and_left (nat_lt s.count (length (index_of s.array))) (is_some (enter (cells_of s.array) (index_of s.array) (path_of_word w) s.count))
     (le-ltb s.count (length (index_of s.array)) full)
 
 -- what the placing rule leaves, by how many words are counted
 pub placed : (s : TrieList) (w : List ℕ) (t : TrieList)
-    → enter (cells_of s.array) (index_of s.array) (path_of w) s.count ≡ Some (record { cells = cells_of t.array; index = index_of t.array }) → Placed s w t
-placed s w t did = record { arrays_after = ap (enter (cells_of s.array) (index_of s.array) (path_of w)) (length_roll s) ∙ did }
+    → enter (cells_of s.array) (index_of s.array) (path_of_word w) s.count ≡ Some (record { cells = cells_of t.array; index = index_of t.array }) → Placed s w t
+placed s w t did = record { arrays_after = ap (enter (cells_of s.array) (index_of s.array) (path_of_word w)) (length_roll s) ∙ did }
 
 -- a path that ends with the end sign and nowhere else has it
 abbrev Ends : List ℕ → Type 0
@@ -139,20 +139,20 @@ ending s = record {
       let cs = cells_of s.array in
       let is = index_of s.array in
       let found = number_path cs is s.count (listed s) p n (held_number cs p n held) in
-      ap ends_once (sym found.1) ∙ (and_parts (ends_once (path_at cs is n)) (label_sized (labels_of (path_at cs is n))) ((listed s).worded n found.0)).0;
+      ap ends_once (sym found.1) ∙ (and_parts (ends_once (path_at cs is n)) (label_sized (labels_on (path_at cs is n))) ((listed s).worded n found.0)).0;
 }
 
 -- a new word's path with the next number is refused only for want of a place
 module _ (s : TrieList) (w : List ℕ) (sized : label_sized w ≡ true) (absent : number_of (roll_of s) w ≡ None) (bytes : (k : ℕ) → slice_index w k < 256)
     (left : s.count < length (index_of s.array)) where
-  none_held : number_at (cells_of s.array) (path_of w) ≡ None
+  none_held : number_at (cells_of s.array) (path_of_word w) ≡ None
   none_held = number_is (cells_of s.array) (index_of s.array) s.count (listed s) w ∙ absent
 
-  fine_path : is_path (path_of w) ≡ true
+  fine_path : is_path (path_of_word w) ≡ true
   fine_path =
       let size = label_bounds w sized in
-      and_from (nat_lt 0 (length (path_of w)) && nat_lt (length (path_of w)) 130) (all_codes (path_of w))
-      (and_from (nat_lt 0 (length (path_of w))) (nat_lt (length (path_of w)) 130) (lt-ltb 0 (length (path_of w)) (omega (arith, length_path w))) (lt-ltb (length (path_of w)) 130 (omega (arith, length_path w, size.1))))
+      and_from (nat_lt 0 (length (path_of_word w)) && nat_lt (length (path_of_word w)) 130) (all_codes (path_of_word w))
+      (and_from (nat_lt 0 (length (path_of_word w))) (nat_lt (length (path_of_word w)) 130) (lt-ltb 0 (length (path_of_word w)) (omega (arith, length_path w))) (lt-ltb (length (path_of_word w)) 130 (omega (arith, length_path w, size.1))))
       (path_codes w bytes)
 
   next : s.count + 1 - 1 ≡ s.count
@@ -165,39 +165,39 @@ module _ (s : TrieList) (w : List ℕ) (sized : label_sized w ≡ true) (absent 
       (and_from (nat_lt 0 (s.count + 1)) (nat_lt (s.count + 1) 2147483648) (lt-ltb 0 (s.count + 1) (omega arith)) (lt-ltb (s.count + 1) 2147483648 (omega (arith, left, s.few))))
       (eq-eqb (slice_index (index_of s.array) (s.count + 1 - 1)) 0 none)
 
-  new_path : is_new (cells_of s.array) (path_of w) ≡ true
-  new_path = unblocked (cells_of s.array) (index_of s.array) (listed s).sound Ends (ending s) (path_of w) (path_codes w bytes) (ends_path w) none_held
+  new_path : is_unblocked (cells_of s.array) (path_of_word w) ≡ true
+  new_path = unblocked (cells_of s.array) (index_of s.array) (listed s).sound Ends (ending s) (path_of_word w) (path_codes w bytes) (ends_path w) none_held
 
-  pub judged : refusal (cells_of s.array) (index_of s.array) (path_of w) (s.count + 1) ≡ no_place (enter (cells_of s.array) (index_of s.array) (path_of w) s.count)
+  pub judged : refusal (cells_of s.array) (index_of s.array) (path_of_word w) (s.count + 1) ≡ no_place (enter (cells_of s.array) (index_of s.array) (path_of_word w) s.count)
   judged =
-      judged_by (cells_of s.array) (index_of s.array) (path_of w) (s.count + 1) fine_path open_number new_path
-      (enter (cells_of s.array) (index_of s.array) (path_of w) s.count) (ap (enter (cells_of s.array) (index_of s.array) (path_of w)) next)
+      judged_by (cells_of s.array) (index_of s.array) (path_of_word w) (s.count + 1) fine_path open_number new_path
+      (enter (cells_of s.array) (index_of s.array) (path_of_word w) s.count) (ap (enter (cells_of s.array) (index_of s.array) (path_of_word w)) next)
 
   -- the word has room where its path is entered, and none where there is no place
-  pub room_yes : (xs : Arrays) → enter (cells_of s.array) (index_of s.array) (path_of w) s.count ≡ Some xs → room_of s w ≡ true
+  pub room_yes : (xs : Arrays) → enter (cells_of s.array) (index_of s.array) (path_of_word w) s.count ≡ Some xs → room_of s w ≡ true
   room_yes xs did =
       room_is s w
-      ∙ and_from (nat_lt s.count (length (index_of s.array))) (is_some (enter (cells_of s.array) (index_of s.array) (path_of w) s.count))
+      ∙ and_from (nat_lt s.count (length (index_of s.array))) (is_some (enter (cells_of s.array) (index_of s.array) (path_of_word w) s.count))
       (lt-ltb s.count (length (index_of s.array)) left) (ap is_some did)
 
-  pub room_no : enter (cells_of s.array) (index_of s.array) (path_of w) s.count ≡ None → room_of s w ≡ false
+  pub room_no : enter (cells_of s.array) (index_of s.array) (path_of_word w) s.count ≡ None → room_of s w ≡ false
   room_no none =
       room_is s w
-      ∙ and_right (nat_lt s.count (length (index_of s.array))) (is_some (enter (cells_of s.array) (index_of s.array) (path_of w) s.count)) (ap is_some none)
+      ∙ and_right (nat_lt s.count (length (index_of s.array))) (is_some (enter (cells_of s.array) (index_of s.array) (path_of_word w) s.count)) (ap is_some none)
 
   -- what the refusal of the path says
-  pub refused_place : (e : PathFault) → refusal (cells_of s.array) (index_of s.array) (path_of w) (s.count + 1) ≡ Some e → (e ≡ NoPlace) × (room_of s w ≡ false)
-  refused_place e said = by (enter (cells_of s.array) (index_of s.array) (path_of w) s.count) refl
+  pub refused_place : (e : PathFault) → refusal (cells_of s.array) (index_of s.array) (path_of_word w) (s.count + 1) ≡ Some e → (e ≡ NoPlace) × (room_of s w ≡ false)
+  refused_place e said = by (enter (cells_of s.array) (index_of s.array) (path_of_word w) s.count) refl
     where
-      by : (o : Option Arrays) → enter (cells_of s.array) (index_of s.array) (path_of w) s.count ≡ o → (e ≡ NoPlace) × (room_of s w ≡ false)
+      by : (o : Option Arrays) → enter (cells_of s.array) (index_of s.array) (path_of_word w) s.count ≡ o → (e ≡ NoPlace) × (room_of s w ≡ false)
       by None none = (some_same e NoPlace (sym said ∙ judged ∙ ap no_place none), room_no none)
       by (Some xs) did = absurd (no_some e (sym (judged ∙ ap no_place did) ∙ said))
 
   -- an entry of the slice that was written, with the next number, is one of the word's path
-  pub entered_as : (slice : List ℕ) (xs : Arrays) → slice ≡ path_of w → enter (cells_of s.array) (index_of s.array) slice (s.count + 1 - 1) ≡ Some xs
-      → enter (cells_of s.array) (index_of s.array) (path_of w) s.count ≡ Some xs
+  pub entered_as : (slice : List ℕ) (xs : Arrays) → slice ≡ path_of_word w → enter (cells_of s.array) (index_of s.array) slice (s.count + 1 - 1) ≡ Some xs
+      → enter (cells_of s.array) (index_of s.array) (path_of_word w) s.count ≡ Some xs
   entered_as slice xs same did =
-      ap (λ (n : ℕ). enter (cells_of s.array) (index_of s.array) (path_of w) n) (sym next)
+      ap (λ (n : ℕ). enter (cells_of s.array) (index_of s.array) (path_of_word w) n) (sym next)
       ∙ ap (λ (p : List ℕ). enter (cells_of s.array) (index_of s.array) p (s.count + 1 - 1)) (sym same) ∙ did
 
 -- a new word that is refused for want of a place

@@ -9,48 +9,48 @@ use Rattle.lexicon.specs.Rolls.{label_sized}
 use Rattle.lexicon.proofs.Numbers.{label_bounds}
 use Rattle.cells.specs.Cells.{is_code, all_codes, label_of}
 use Rattle.cells.proofs.Labels.{label_is, label_at}
-use Rattle.trie_list.specs.Paths.{path_of, labels_of, ends_once, word_path}
+use Rattle.trie_list.specs.Paths.{path_of_word, labels_on, ends_once, word_path}
 
 -- a path that begins with a code and is not at its end
-pub labels_step : (a : ℕ) (w : List ℕ) → labels_of (a ∷ path_of w) ≡ (a - 2) ∷ labels_of (path_of w)
+pub labels_step : (a : ℕ) (w : List ℕ) → labels_on (a ∷ path_of_word w) ≡ (a - 2) ∷ labels_on (path_of_word w)
 labels_step a [] = refl
 labels_step a (b ∷ w) = refl
 
-pub labels_path : (w : List ℕ) → labels_of (path_of w) ≡ w
+pub labels_path : (w : List ℕ) → labels_on (path_of_word w) ≡ w
 labels_path [] = refl
 labels_path (b ∷ w) =
     labels_step (b + 2) w
-    ∙ ap (λ (k : ℕ). k ∷ labels_of (path_of w)) (let z : b + 2 - 2 ≡ b = omega arith in z)
+    ∙ ap (λ (k : ℕ). k ∷ labels_on (path_of_word w)) (let z : b + 2 - 2 ≡ b = omega arith in z)
     ∙ ap (λ (v : List ℕ). b ∷ v) (labels_path w)
 
-ends_step : (a : ℕ) (w : List ℕ) → ends_once (a ∷ path_of w) ≡ (nat_le 2 a && ends_once (path_of w))
+ends_step : (a : ℕ) (w : List ℕ) → ends_once (a ∷ path_of_word w) ≡ (nat_le 2 a && ends_once (path_of_word w))
 ends_step a [] = refl
 ends_step a (b ∷ w) = refl
 
-pub ends_path : (w : List ℕ) → ends_once (path_of w) ≡ true
+pub ends_path : (w : List ℕ) → ends_once (path_of_word w) ≡ true
 ends_path [] = refl
-ends_path (b ∷ w) = ends_step (b + 2) w ∙ and_from (nat_le 2 (b + 2)) (ends_once (path_of w)) (le-leb 2 (b + 2) (omega arith)) (ends_path w)
+ends_path (b ∷ w) = ends_step (b + 2) w ∙ and_from (nat_le 2 (b + 2)) (ends_once (path_of_word w)) (le-leb 2 (b + 2) (omega arith)) (ends_path w)
 
 -- a path that ends once is that of its labels
-pub path_labels : (p : List ℕ) → ends_once p ≡ true → path_of (labels_of p) ≡ p
+pub path_labels : (p : List ℕ) → ends_once p ≡ true → path_of_word (labels_on p) ≡ p
 path_labels [] e = absurd (both_ways false refl e)
 path_labels (a ∷ []) e = ap (λ (k : ℕ). k ∷ []) (sym (eqb-true a 1 e))
 path_labels (a ∷ b ∷ p) e =
     let parts = and_parts (nat_le 2 a) (ends_once (b ∷ p)) e in
     let low = leb-true 2 a parts.0 in
-    ap (λ (k : ℕ). k ∷ path_of (labels_of (b ∷ p))) (let z : a - 2 + 2 ≡ a = omega arith in z) ∙ ap (λ (q : List ℕ). a ∷ q) (path_labels (b ∷ p) parts.1)
+    ap (λ (k : ℕ). k ∷ path_of_word (labels_on (b ∷ p))) (let z : a - 2 + 2 ≡ a = omega arith in z) ∙ ap (λ (q : List ℕ). a ∷ q) (path_labels (b ∷ p) parts.1)
 
-pub length_path : (w : List ℕ) → length (path_of w) ≡ length w + 1
+pub length_path : (w : List ℕ) → length (path_of_word w) ≡ length w + 1
 length_path [] = refl
 length_path (b ∷ w) = ap suc (length_path w) ∙ (let z : suc (length w + 1) ≡ suc (length w) + 1 = omega arith in z)
 
 -- a word of the right length has a word's path
-pub word_path_of : (w : List ℕ) → label_sized w ≡ true → word_path (path_of w) ≡ true
-word_path_of w sized = and_from (ends_once (path_of w)) (label_sized (labels_of (path_of w))) (ends_path w) (ap label_sized (labels_path w) ∙ sized)
+pub word_path_of : (w : List ℕ) → label_sized w ≡ true → word_path (path_of_word w) ≡ true
+word_path_of w sized = and_from (ends_once (path_of_word w)) (label_sized (labels_on (path_of_word w))) (ends_path w) (ap label_sized (labels_path w) ∙ sized)
 
-pub word_path_parts : (p : List ℕ) → word_path p ≡ true → (path_of (labels_of p) ≡ p) × (label_sized (labels_of p) ≡ true)
+pub word_path_parts : (p : List ℕ) → word_path p ≡ true → (path_of_word (labels_on p) ≡ p) × (label_sized (labels_on p) ≡ true)
 word_path_parts p e =
-    let parts = and_parts (ends_once p) (label_sized (labels_of p)) e in
+    let parts = and_parts (ends_once p) (label_sized (labels_on p)) e in
     (path_labels p parts.0, parts.1)
 
 -- a path that ends once, and goes on after another, does not let that one end once
@@ -72,25 +72,25 @@ label_before (a ∷ c ∷ p) zero b e h is = omega arith
 label_before (a ∷ c ∷ p) (suc k) b e h is = omega (arith, label_before (c ∷ p) k b (and_parts (nat_le 2 a) (ends_once (c ∷ p)) e).1 (omega arith) is)
 
 -- a path has one code more than labels
-pub length_labels : (p : List ℕ) → ends_once p ≡ true → length (labels_of p) + 1 ≡ length p
-length_labels p e = sym (length_path (labels_of p)) ∙ ap length (path_labels p e)
+pub length_labels : (p : List ℕ) → ends_once p ≡ true → length (labels_on p) + 1 ≡ length p
+length_labels p e = sym (length_path (labels_on p)) ∙ ap length (path_labels p e)
 
 -- the path of a word has 2 to 129 codes
 pub word_path_size : (p : List ℕ) → word_path p ≡ true → (2 ≤ length p) × (length p ≤ 129)
 word_path_size p e =
-    let parts = and_parts (ends_once p) (label_sized (labels_of p)) e in
-    let sizes = label_bounds (labels_of p) parts.1 in
+    let parts = and_parts (ends_once p) (label_sized (labels_on p)) e in
+    let sizes = label_bounds (labels_on p) parts.1 in
     (omega (arith, length_labels p parts.0, sizes.0), omega (arith, length_labels p parts.0, sizes.1))
 
 -- the path of a word of bytes is one of codes
-pub path_codes : (w : List ℕ) → ((k : ℕ) → slice_index w k < 256) → all_codes (path_of w) ≡ true
+pub path_codes : (w : List ℕ) → ((k : ℕ) → slice_index w k < 256) → all_codes (path_of_word w) ≡ true
 path_codes [] bytes = refl
 path_codes (b ∷ w) bytes =
     let low = bytes 0 in
-    and_from (is_code (b + 2)) (all_codes (path_of w)) (and_from (nat_lt 0 (b + 2)) (nat_lt (b + 2) 258) (lt-ltb 0 (b + 2) (omega arith)) (lt-ltb (b + 2) 258 (omega arith))) (path_codes w (λ k. bytes (suc k)))
+    and_from (is_code (b + 2)) (all_codes (path_of_word w)) (and_from (nat_lt 0 (b + 2)) (nat_lt (b + 2) 258) (lt-ltb 0 (b + 2) (omega arith)) (lt-ltb (b + 2) 258 (omega arith))) (path_codes w (λ k. bytes (suc k)))
 
 -- the labels of a path are those that its codes have
-pub labels_kept : (p : List ℕ) → ends_once p ≡ true → all_codes p ≡ true → filter_map label_of p ≡ labels_of p
+pub labels_kept : (p : List ℕ) → ends_once p ≡ true → all_codes p ≡ true → filter_map label_of p ≡ labels_on p
 labels_kept [] e codes = absurd (both_ways false refl e)
 labels_kept (a ∷ []) e codes = ap (λ (k : ℕ). cons_option (label_of k) []) (eqb-true a 1 e)
 labels_kept (a ∷ b ∷ p) e codes =

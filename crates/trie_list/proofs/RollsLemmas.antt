@@ -19,8 +19,8 @@ use Rattle.cells.proofs.Sounds.{leaf_is, found_is}
 use Rattle.cells.proofs.Enters.{entering}
 use Rattle.cells.proofs.Numbers.{decides_same}
 use Rattle.cells.proofs.Starts.{indexing}
-use Rattle.trie_list.specs.Paths.{path_of, labels_of, word_path}
-use Rattle.trie_list.specs.Rolls.{path_at, word_at, words_of, Numbered, Unnumbered, Counted, Worded}
+use Rattle.trie_list.specs.Paths.{path_of_word, labels_on, word_path}
+use Rattle.trie_list.specs.Rolls.{path_at, word_at, words_of, Numbered, Unnumbered, NumbersWithin, Worded}
 use Rattle.trie_list.proofs.PathsLemmas.{labels_path, word_path_of, word_path_parts}
 
 -- the word of the number n + 1 stands at the place n
@@ -34,7 +34,7 @@ pub record Listed (cs : List Cell) (is : List ℕ) (count : ℕ) : Type 0 where
   pub few : count ≤ 65535
   pub numbered : Numbered is count
   pub unnumbered : Unnumbered is count
-  pub counted : Counted cs count
+  pub counted : NumbersWithin cs count
   pub worded : Worded cs is count
 
 module _ (cs : List Cell) (is : List ℕ) (count : ℕ) (l : Listed cs is count) where
@@ -59,7 +59,7 @@ module _ (cs : List Cell) (is : List ℕ) (count : ℕ) (l : Listed cs is count)
   get_d_words k h = get_or-map-range_with_len (word_at cs is) 0 count k k [] h (let z : 0 + k ≡ k = omega arith in z)
 
   -- the path of a number's word
-  pub path_word : (k : ℕ) → k < count → path_of (word_at cs is k) ≡ path_at cs is k
+  pub path_word : (k : ℕ) → k < count → path_of_word (word_at cs is k) ≡ path_at cs is k
   path_word k h = (word_path_parts (path_at cs is k) (l.worded k h)).0
 
   pub words_lawful : Lawful (words_of cs is count)
@@ -70,58 +70,58 @@ module _ (cs : List Cell) (is : List ℕ) (count : ℕ) (l : Listed cs is count)
         let low : i < count = omega (arith, length_words, alike.0) in
         let high : j < count = omega (arith, length_words, alike.1) in
         let words : word_at cs is i ≡ word_at cs is j = sym (get_d_words i low) ∙ alike.2 ∙ get_d_words j high in
-        let paths : path_at cs is i ≡ path_at cs is j = sym (path_word i low) ∙ ap path_of words ∙ path_word j high in
+        let paths : path_at cs is i ≡ path_at cs is j = sym (path_word i low) ∙ ap path_of_word words ∙ path_word j high in
         let same : suc i ≡ suc j = some_same (suc i) (suc j) (sym (path_number i low) ∙ ap (number_at cs) paths ∙ path_number j high) in
         omega arith;
   }
 
   -- walking the path of a word finds the number that the roll gives it, and none where the roll lacks it
-  pub number_is : (w : List ℕ) → number_at cs (path_of w) ≡ number_of (words_of cs is count) w
-  number_is w = by (number_at cs (path_of w)) (number_of (words_of cs is count) w) refl refl
+  pub number_is : (w : List ℕ) → number_at cs (path_of_word w) ≡ number_of (words_of cs is count) w
+  number_is w = by (number_at cs (path_of_word w)) (number_of (words_of cs is count) w) refl refl
     where
-      held : (n : ℕ) → number_at cs (path_of w) ≡ Some (suc n) → number_of (words_of cs is count) w ≡ Some (suc n)
+      held : (n : ℕ) → number_at cs (path_of_word w) ≡ Some (suc n) → number_of (words_of cs is count) w ≡ Some (suc n)
       held n e =
-          let found = number_path (path_of w) n e in
+          let found = number_path (path_of_word w) n e in
           let long = length_words in
-          let here : word_of (words_of cs is count) (suc n) ≡ w = word_next (words_of cs is count) n ∙ get_d_words n found.0 ∙ ap labels_of found.1 ∙ labels_path w in
+          let here : word_of (words_of cs is count) (suc n) ≡ w = word_next (words_of cs is count) n ∙ get_d_words n found.0 ∙ ap labels_on found.1 ∙ labels_path w in
           subst (λ (v : List ℕ). number_of (words_of cs is count) v ≡ Some (suc n)) here (number_word (words_of cs is count) (suc n) words_lawful (omega arith) (omega (arith, found.0)))
 
-      by : (a b : Option ℕ) → number_at cs (path_of w) ≡ a → number_of (words_of cs is count) w ≡ b → a ≡ b
+      by : (a b : Option ℕ) → number_at cs (path_of_word w) ≡ a → number_of (words_of cs is count) w ≡ b → a ≡ b
       by None None e f = refl
       by None (Some zero) e f = absurd (omega (arith, (number_some (words_of cs is count) w 0 f).0))
       by None (Some (suc n)) e f =
           let found = number_some (words_of cs is count) w (suc n) f in
           let low : n < count = omega (arith, found.1, length_words) in
-          let path : path_at cs is n ≡ path_of w = sym (path_word n low) ∙ ap path_of (sym (get_d_words n low) ∙ sym (word_next (words_of cs is count) n) ∙ found.2) in
+          let path : path_at cs is n ≡ path_of_word w = sym (path_word n low) ∙ ap path_of_word (sym (get_d_words n low) ∙ sym (word_next (words_of cs is count) n) ∙ found.2) in
           absurd (no_some (suc n) (sym e ∙ ap (number_at cs) (sym path) ∙ path_number n low))
-      by (Some zero) b e f = absurd (number_positive cs (path_of w) e)
+      by (Some zero) b e f = absurd (number_positive cs (path_of_word w) e)
       by (Some (suc n)) b e f = sym (held n e) ∙ f
 
 -- a new word that was entered with the next number is the last of the roll
 module _ (cs : List Cell) (is : List ℕ) (count : ℕ) (l : Listed cs is count) (w : List ℕ) (xs : Arrays)
-    (sized : label_sized w ≡ true) (place : count < length is) (few : count < 65535) (did : enter cs is (path_of w) count ≡ Some xs) where
-  outcome : Enters cs is (path_of w) count xs
-  outcome = entering cs is (path_of w) count xs l.sound (l.unnumbered count (omega arith)) did
+    (sized : label_sized w ≡ true) (place : count < length is) (few : count < 65535) (did : enter cs is (path_of_word w) count ≡ Some xs) where
+  outcome : Enters cs is (path_of_word w) count xs
+  outcome = entering cs is (path_of_word w) count xs l.sound (l.unnumbered count (omega arith)) did
 
   -- the new path has the new number
-  new_number : number_at xs.cells (path_of w) ≡ Some (suc count)
-  new_number = outcome.after (path_of w) ∙ cond-true (same_path (path_of w) (path_of w)) (Some (suc count)) (number_at cs (path_of w)) ((decides_same (path_of w) (path_of w)).1 refl)
+  new_number : number_at xs.cells (path_of_word w) ≡ Some (suc count)
+  new_number = outcome.after (path_of_word w) ∙ cond-true (same_path (path_of_word w) (path_of_word w)) (Some (suc count)) (number_at cs (path_of_word w)) ((decides_same (path_of_word w) (path_of_word w)).1 refl)
 
   -- a path with a number has it still
   old_number : (p : List ℕ) (n : ℕ) → number_at cs p ≡ Some n → number_at xs.cells p ≡ Some n
   old_number p n e =
       ⊎_elim
-      (λ same. absurd (no_some n (sym outcome.new ∙ ap (number_at cs) (sym ((decides_same p (path_of w)).0 same)) ∙ e)))
-      (λ other. outcome.after p ∙ cond-false (same_path p (path_of w)) (Some (suc count)) (number_at cs p) other ∙ e)
-      (cases_Bool (same_path p (path_of w)))
+      (λ same. absurd (no_some n (sym outcome.new ∙ ap (number_at cs) (sym ((decides_same p (path_of_word w)).0 same)) ∙ e)))
+      (λ other. outcome.after p ∙ cond-false (same_path p (path_of_word w)) (Some (suc count)) (number_at cs p) other ∙ e)
+      (cases_Bool (same_path p (path_of_word w)))
 
   -- and one that has a number now had it, or is the new one
   number_back : (p : List ℕ) (n : ℕ) → number_at xs.cells p ≡ Some (suc n) → (number_at cs p ≡ Some (suc n)) ⊎ (n ≡ count)
   number_back p n e =
       ⊎_elim
-      (λ same. inr (let z : suc count ≡ suc n = some_same (suc count) (suc n) (sym (cond-true (same_path p (path_of w)) (Some (suc count)) (number_at cs p) same) ∙ sym (outcome.after p) ∙ e) in omega arith))
-      (λ other. inl (sym (cond-false (same_path p (path_of w)) (Some (suc count)) (number_at cs p) other) ∙ sym (outcome.after p) ∙ e))
-      (cases_Bool (same_path p (path_of w)))
+      (λ same. inr (let z : suc count ≡ suc n = some_same (suc count) (suc n) (sym (cond-true (same_path p (path_of_word w)) (Some (suc count)) (number_at cs p) same) ∙ sym (outcome.after p) ∙ e) in omega arith))
+      (λ other. inl (sym (cond-false (same_path p (path_of_word w)) (Some (suc count)) (number_at cs p) other) ∙ sym (outcome.after p) ∙ e))
+      (cases_Bool (same_path p (path_of_word w)))
 
   -- where the index leads now
   led : (p : List ℕ) (n : ℕ) → n < count + 1 → number_at xs.cells p ≡ Some (suc n) → (0 < slice_index xs.index n) × (path_at xs.cells xs.index n ≡ p)
@@ -130,8 +130,8 @@ module _ (cs : List Cell) (is : List ℕ) (count : ℕ) (l : Listed cs is count)
   old_led : (n : ℕ) → n < count → (0 < slice_index xs.index n) × (path_at xs.cells xs.index n ≡ path_at cs is n)
   old_led n h = led (path_at cs is n) n (omega arith) (old_number (path_at cs is n) (suc n) (path_number cs is count l n h))
 
-  new_led : (0 < slice_index xs.index count) × (path_at xs.cells xs.index count ≡ path_of w)
-  new_led = led (path_of w) count (omega arith) new_number
+  new_led : (0 < slice_index xs.index count) × (path_at xs.cells xs.index count ≡ path_of_word w)
+  new_led = led (path_of_word w) count (omega arith) new_number
 
   each_led : (n : ℕ) → n < count + 1 → (0 < slice_index xs.index n) × (word_path (path_at xs.cells xs.index n) ≡ true)
   each_led n h =
@@ -159,8 +159,8 @@ module _ (cs : List Cell) (is : List ℕ) (count : ℕ) (l : Listed cs is count)
   grown_words =
       let old : words_of cs is count ≡ words_of xs.cells xs.index count =
       fill_by_all (word_at xs.cells xs.index) (words_of cs is count) count [] (length_words cs is count l)
-      (λ k h. get_d_words cs is count l k h ∙ ap labels_of (sym (old_led k h).1)) in
-      let last : word_at xs.cells xs.index count ≡ w = ap labels_of new_led.1 ∙ labels_path w in
+      (λ k h. get_d_words cs is count l k h ∙ ap labels_on (sym (old_led k h).1)) in
+      let last : word_at xs.cells xs.index count ≡ w = ap labels_on new_led.1 ∙ labels_path w in
       map-range_with_len_more (word_at xs.cells xs.index) 0 count count (let z : 0 + count ≡ count = omega arith in z)
       ∙ ap (λ (v : List (List ℕ)). v ++ word_at xs.cells xs.index count ∷ []) (sym old)
       ∙ ap (λ (v : List ℕ). words_of cs is count ++ v ∷ []) last

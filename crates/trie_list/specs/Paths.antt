@@ -4,14 +4,14 @@ use Rattle.cells.specs.Cells.{path_of_labels}
 use Rattle.lexicon.specs.Rolls.{label_sized}
 
 -- the path of a word: the codes of its labels, and 1 for the end sign
-abbrev pub path_of : List ℕ → List ℕ
-path_of word = path_of_labels word ++ 1 ∷ []
+abbrev pub path_of_word : List ℕ → List ℕ
+path_of_word word = path_of_labels word ++ 1 ∷ []
 
 -- the labels of a path, without its last code
-abbrev pub labels_of : List ℕ → List ℕ
-labels_of [] = []
-labels_of (a ∷ []) = []
-labels_of (a ∷ b ∷ more) = (a - 2) ∷ labels_of (b ∷ more)
+abbrev pub labels_on : List ℕ → List ℕ
+labels_on [] = []
+labels_on (a ∷ []) = []
+labels_on (a ∷ b ∷ more) = (a - 2) ∷ labels_on (b ∷ more)
 
 -- whether the end sign stands at the end of the path and nowhere else
 abbrev pub ends_once : List ℕ → Bool
@@ -21,4 +21,4 @@ ends_once (a ∷ b ∷ more) = nat_le 2 a && ends_once (b ∷ more)
 
 -- whether it is the path of a word of 1 to 128 labels
 abbrev pub word_path : List ℕ → Bool
-word_path p = ends_once p && label_sized (labels_of p)
+word_path p = ends_once p && label_sized (labels_on p)

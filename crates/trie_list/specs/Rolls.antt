@@ -4,7 +4,7 @@ use Rattle.std.specs.List.{range_with_len}
 use Rattle.cells.specs.declared.Cell.{Cell}
 use Rattle.cells.specs.Cells.{at, entry, is_leaf}
 use Rattle.cells.specs.Walking.{path_to}
-use Rattle.trie_list.specs.Paths.{labels_of, word_path}
+use Rattle.trie_list.specs.Paths.{labels_on, word_path}
 
 -- the path to the leaf of the number n + 1
 abbrev pub path_at : List Cell → List ℕ → ℕ → List ℕ
@@ -12,7 +12,7 @@ path_at cs is n = path_to cs (slice_index is n)
 
 -- the word of the number n + 1: the labels on the way up from its leaf
 abbrev pub word_at : List Cell → List ℕ → ℕ → List ℕ
-word_at cs is n = labels_of (path_at cs is n)
+word_at cs is n = labels_on (path_at cs is n)
 
 -- the words of so many numbers
 abbrev pub words_of : List Cell → List ℕ → ℕ → List (List ℕ)
@@ -27,8 +27,8 @@ abbrev pub Unnumbered : List ℕ → ℕ → Type 0
 Unnumbered is count = (n : ℕ) → count ≤ n → slice_index is n ≡ 0
 
 -- the number of each leaf is counted
-abbrev pub Counted : List Cell → ℕ → Type 0
-Counted cs count = (t : ℕ) → is_leaf cs t ≡ true → entry (at cs t).base < count
+abbrev pub NumbersWithin : List Cell → ℕ → Type 0
+NumbersWithin cs count = (t : ℕ) → is_leaf cs t ≡ true → entry (at cs t).base < count
 
 -- the path to each leaf is that of a word
 abbrev pub Worded : List Cell → List ℕ → ℕ → Type 0

@@ -8,7 +8,7 @@ use Rattle.cells.specs.Laws.{cleared}
 use Rattle.cells.specs.Placing.{enter}
 use Rattle.cells.specs.Walking.{number_at}
 use Rattle.double_array.specs.Views.{cells_of, index_of}
-use Rattle.trie_list.specs.Paths.{path_of}
+use Rattle.trie_list.specs.Paths.{path_of_word}
 use Rattle.trie_list.specs.Rolls.{words_of}
 use Rattle.trie_list.specs.declared.list.TrieList.{TrieList}
 
@@ -19,18 +19,18 @@ roll_of s = words_of (cells_of s.array) (index_of s.array) s.count
 -- walking the cells finds each word of the roll with its number, and nothing else
 pub record Walked (s : TrieList) : Type 0 where
   -- the path of a word has the number that the roll gives the word, and none where the roll lacks it
-  pub words : (word : List ℕ) → number_at (cells_of s.array) (path_of word) ≡ number_of (roll_of s) word
+  pub words : (word : List ℕ) → number_at (cells_of s.array) (path_of_word word) ≡ number_of (roll_of s) word
   -- a path that has a number is the path of that number's word
-  pub only : (p : List ℕ) (number : ℕ) → number_at (cells_of s.array) p ≡ Some number → (numbered (roll_of s) number ≡ true) × (p ≡ path_of (word_of (roll_of s) number))
+  pub only : (p : List ℕ) (number : ℕ) → number_at (cells_of s.array) p ≡ Some number → (numbered (roll_of s) number ≡ true) × (p ≡ path_of_word (word_of (roll_of s) number))
 
 -- room for a word: there are fewer words than index places, and the placing rule finds every place of its path
 abbrev pub room_of : TrieList → List ℕ → Bool
 room_of s word =
     nat_lt (length (roll_of s)) (length (index_of s.array))
-    && is_some (enter (cells_of s.array) (index_of s.array) (path_of word) (length (roll_of s)))
+    && is_some (enter (cells_of s.array) (index_of s.array) (path_of_word word) (length (roll_of s)))
 
 -- a list newly made of n cells and k index entries: every cell free but the root, every entry 0, and no word
-pub record Made (n k : ℕ) (s : TrieList) : Type 0 where
+pub record IsNewTrieList (n k : ℕ) (s : TrieList) : Type 0 where
   pub cells_long : length (cells_of s.array) ≡ min n 1048576
   pub cells_clear : (j : ℕ) → j < length (cells_of s.array) → at (cells_of s.array) j ≡ cleared j
   pub index_long : length (index_of s.array) ≡ min k 65535
@@ -40,7 +40,7 @@ pub record Made (n k : ℕ) (s : TrieList) : Type 0 where
 -- the cells and the index of the list t are what the placing rule leaves of those of s when the path of the word is entered
 -- with the next number
 pub record Placed (s : TrieList) (word : List ℕ) (t : TrieList) : Type 0 where
-  pub arrays_after : enter (cells_of s.array) (index_of s.array) (path_of word) (length (roll_of s))
+  pub arrays_after : enter (cells_of s.array) (index_of s.array) (path_of_word word) (length (roll_of s))
       ≡ Some (record { cells = cells_of t.array; index = index_of t.array })
 
 -- a new word is entered where there is room, and is then the last of the roll; without room it is refused and nothing changes

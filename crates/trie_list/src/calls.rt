@@ -3,11 +3,11 @@ ghost use Rattle.std.specs.Prelude.{◌≡◌, ◌≤◌, true, length, IfOk, No
 ghost use Rattle.lexicon.specs.Rolls.{label_sized, number_of, numbered, word_of};
 ghost use Rattle.double_array.specs.Views.{cells_of, index_of};
 ghost use Rattle.trie_list.specs.Below.{below_of, below_answer, below_output, WordsBelow};
-ghost use Rattle.trie_list.specs.Trie.{roll_of, room_of, Made, Walked, Placed, Appends};
+ghost use Rattle.trie_list.specs.Trie.{roll_of, room_of, IsNewTrieList, Walked, Placed, Appends};
 
 use super::faults::list_fault;
 use super::list::TrieList;
-use super::spelling::{codes_of, labels_of, path_of};
+use super::spelling::{codes_of, labels_on, path_of_word};
 use arrayvec::ArrayVec;
 use cells::Cell;
 use double_array::DoubleArray;
@@ -19,7 +19,7 @@ impl TrieList {
     // becomes free but the root, and every index entry 0. Of more than 1,048,576 cells and of more
     // than 65,535 index entries the rest is given up.
     pub fn new(cells: Vec<Cell>, mut index: Vec<u32>) -> TrieList
-        ensures { Made (vec_len cells) (vec_len index) result }
+        ensures { IsNewTrieList (vec_len cells) (vec_len index) result }
     {
         index.truncate(MAX_WORDS);
         TrieList {
@@ -71,14 +71,14 @@ impl TrieList {
         requires { length word.now ≤ 128 }
         ensures { result ≡ number_of (roll_of self.now) word.now }
     {
-        let path = path_of(word);
+        let path = path_of_word(word);
         self.array
             .number_at(path.as_slice())
             .map(|number| number as u16)
     }
 
     // The labels of the word of a number.
-    fn labels_of(&self, number: u16) -> ArrayVec<u8, 128>
+    fn word_of(&self, number: u16) -> ArrayVec<u8, 128>
         requires { numbered (roll_of self.now) number ≡ true }
         ensures { result.items ≡ word_of (roll_of self.now) number }
     {
@@ -87,7 +87,7 @@ impl TrieList {
         let Ok(size) = self.array.path_of(number as u32, &mut path) else {
             return ArrayVec::new();
         };
-        labels_of(&path[0..size])
+        labels_on(&path[0..size])
     }
 
     // Enters a word that the list lacks with the next number, and answers that number.
@@ -99,7 +99,7 @@ impl TrieList {
         if self.count >= self.index().len() {
             return Err(ListFault::NoRoom);
         }
-        let path = path_of(word);
+        let path = path_of_word(word);
         let number = self.count + 1;
         self.array
             .enter(path.as_slice(), number as u32)
@@ -128,7 +128,7 @@ impl ReadableList for TrieList {
         if !is_numbered(self.count, number) {
             return Err(ListFault::UnknownWord);
         }
-        let labels = self.labels_of(number);
+        let labels = self.word_of(number);
         output::put(out, 0, labels.as_slice()).ok_or(ListFault::OutputTooShort)
     }
 }

@@ -1,6 +1,6 @@
 // The trie list: its cells by example, small arrays, a full index.
 use cells::Cell;
-use entry::{Entry, enter_word};
+use entry::{WordEntry, enter_word};
 use lexicon::{GrowingList, ListFault, ReadableList};
 use script::{MorphemeClass, MorphemeSign, Script};
 use std::alloc::{AllocError, Global};
@@ -141,16 +141,19 @@ fn any_bytes_and_any_script(rt: HostRuntime) -> Result<(), Fail> {
             (&[0, 255], Ok(1)),
         ],
     );
-    assert_eq!(rt; enter_word(&mut words, &[255u16]), Ok(Entry::Held(1)));
+    assert_eq!(rt; enter_word(&mut words, &[255u16]), Ok(WordEntry::Held(1)));
     assert_eq!(rt;
         enter_word(&mut words, &[0x65e5u16, 0x672c]),
-        Ok(Entry::New(4))
+        Ok(WordEntry::New(4))
     );
     let noun = MorphemeSign {
         class: MorphemeClass::Noun,
         form: 258,
     };
-    assert_eq!(rt; enter_word(&mut words, &[noun, noun]), Ok(Entry::New(5)));
+    assert_eq!(rt;
+        enter_word(&mut words, &[noun, noun]),
+        Ok(WordEntry::New(5))
+    );
     let mut out = [9u8; 7];
     assert_eq!(rt; words.spell(5, &mut out), Ok(6));
     assert!(rt; out == [5, 1, 2, 5, 1, 2, 9]);

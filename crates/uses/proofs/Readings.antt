@@ -14,14 +14,14 @@ use Rattle.history.specs.declared.replies.Reply.{Reply}
 use Rattle.history.specs.declared.replies.Reply.TheVariants.{Linked, Deleted}
 use Rattle.history.specs.Kits.{Kit, Growth, State, state_of, number_in, triple_in}
 use Rattle.history.specs.Calls.{Adds, Ties, Deletes, read_of, add, tie, delete, replied}
-use Rattle.history.specs.Runs.{Entry, entry_of, event_of, History, present, put_in, handed_by, same_triple, Reached}
+use Rattle.history.specs.Runs.{PresentTriple, present_triple, event_of, History, present, put_in, handed_by, same_triple, Reached}
 use Rattle.history.specs.Laws.{Law, Answers}
 use Rattle.history.proofs.Onwards.{onward}
 use Rattle.uses.specs.Evidence.{IsOwnReading}
 
 module _ {S L R : Type 0} (K : Kit S L R) (G : Growth L) where
   -- an entry stays where another may be put in
-  stays_put : (x y : List S) (q : ℕ) (r : R) (m : Result Link Refusal) (es : List (Entry S R)) (e : Entry S R) → In es e → In (put_in x y q r (handed_by {R = R} (replied {R = R} Linked m)) es) e
+  stays_put : (x y : List S) (q : ℕ) (r : R) (m : Result Link Refusal) (es : List (PresentTriple S R)) (e : PresentTriple S R) → In es e → In (put_in x y q r (handed_by {R = R} (replied {R = R} Linked m)) es) e
   stays_put x y q r (Ok link) es e i = inr i
   stays_put x y q r (Err f) es e i = i
 
@@ -29,11 +29,11 @@ module _ {S L R : Type 0} (K : Kit S L R) (G : Growth L) where
   module _ (s0 s1 s2 s3 : State L R) (t : LinkTable) (x y x' y' : List S) (q q' : ℕ) (r : R) (link link' : Link) (m : Result Link Refusal) (u : ℕ)
       (start : Reached K [] s0) (added : Adds K G s0 x y q r (Ok link) s1) (other : Adds K G s1 x' y' q' r (Ok link') s2)
       (tied : Ties K s2 x y q r m s3) (deleted : Deletes K s3.list s3.table x' y' q' (Ok u) t) where
-    mine : Entry S R
-    mine = entry_of x y q link.number r
+    mine : PresentTriple S R
+    mine = present_triple x y q link.number r
 
-    theirs : Entry S R
-    theirs = entry_of x' y' q' link'.number r
+    theirs : PresentTriple S R
+    theirs = present_triple x' y' q' link'.number r
 
     -- the histories after each call
     one : History S R
@@ -72,7 +72,7 @@ module _ {S L R : Type 0} (K : Kit S L R) (G : Growth L) where
     unfolding mine theirs one two
     unlike =
         ⊎_elim
-        (λ same. absurd (after_two.1.unlike.0 (inl (sym (ap (λ (e : Entry S R). e.link) (after_two.1.once mine theirs (inr (inl refl)) (inl refl) same))))))
+        (λ same. absurd (after_two.1.unlike.0 (inl (sym (ap (λ (e : PresentTriple S R). e.link) (after_two.1.once mine theirs (inr (inl refl)) (inl refl) same))))))
         (λ no. no)
         (cases_Bool (same_triple K x' y' q' mine))
 

@@ -9,7 +9,7 @@ use Rattle.record.specs.declared.Tally.{Tally}
 use Rattle.record.specs.contracts.TallyRecord.TheImpl.{ghosts as tally}
 use Rattle.record.specs.declared.Score.{Score}
 use Rattle.record.specs.contracts.ScoreRecord.TheImpl.{ghosts as score}
-use Rattle.link_table.specs.Tables.{Made}
+use Rattle.link_table.specs.Tables.{IsNewTable}
 use Rattle.link_table.specs.declared.table.LinkTable.{LinkTable}
 use Rattle.history.specs.Kits.{Kit, kit_of, state_of}
 use Rattle.history.specs.Runs.{Reached}
@@ -30,7 +30,7 @@ plain_score_kit = kit_of byte_text plain score
 -- over a list of any words, with any records and a table that was made for them, a history begins and the law holds
 abbrev pub Begins : {S L R : Type 0} → Kit S L R → Type 0
 Begins {L = L} {R = R} K =
-    (cells index : ℕ) (list : L) (records : List R) (table : LinkTable) → Made cells index (length records) table
+    (cells index : ℕ) (list : L) (records : List R) (table : LinkTable) → IsNewTable cells index (length records) table
     → Reached K [] (state_of list table records) × Law K [] (state_of list table records)
 
 -- the four kinds of stores of byte text

@@ -7,7 +7,7 @@
 #![tactic(auto)]
 
 use cells::Cell;
-use entry::{Reply, beginning_of, enter_word, labels_held, line_text};
+use entry::{EntryReply, beginning_of, enter_word, labels_held, line_text};
 use lexicon::ReadableList;
 use script::Script;
 use std::io;
@@ -45,7 +45,7 @@ fn show_below(rt: &HostRuntime, list: &TrieList, beginning: &[u8]) -> io::Result
             println!(rt; "end {count}")
         }
         Err(fault) => {
-            let reply = Reply::from(Err(fault.into()));
+            let reply = EntryReply::from(Err(fault.into()));
             println!(rt; "{reply}")
         }
     }
@@ -56,7 +56,7 @@ fn answer(rt: &HostRuntime, list: &mut TrieList, line: &[u8]) -> io::Result<()> 
     if let Some(beginning) = beginning_of(line) {
         return show_below(rt, list, beginning);
     }
-    let reply = Reply::from(enter_word(list, line));
+    let reply = EntryReply::from(enter_word(list, line));
     println!(rt; "{reply}")
 }
 

@@ -2,15 +2,15 @@
 use Rattle.std.proofs.Common.{ℕ, [], ◌∷◌, replicate, pos, negsuc, refl, ap, ◌∙◌}
 use Rattle.cells.specs.Cells.{free_cell, codes_below}
 use Rattle.cells.specs.Placing.{Arrays, moved_list}
-use Rattle.cells.specs.Examples.{written}
-use Rattle.worked_examples.specs.Examples.{a_word, b_word, ab_word, held_by, Held, list_reported, Examples}
+use Rattle.cells.specs.Examples.{with_cells}
+use Rattle.worked_examples.specs.Examples.{a_word, b_word, ab_word, held_by, TrieParts, list_reported, Examples}
 use Rattle.worked_examples.proofs.Words.{new_held, entered, refused}
 use Rattle.worked_examples.proofs.Words.{starts as list_starts}
 
 -- a list of n cells with a
 abbrev with_a : ℕ → Arrays
 with_a n = record {
-  cells = written (replicate n free_cell) (
+  cells = with_cells (replicate n free_cell) (
       record { place = 1; base = pos 1; check = 1 } ∷ record { place = 2; base = negsuc 0; check = 100 } ∷ record { place = 100; base = pos 1; check = 1 } ∷ []);
   index = 2 ∷ 0 ∷ 0 ∷ [];
 }
@@ -18,7 +18,7 @@ with_a n = record {
 -- with a and b
 abbrev with_b : ℕ → Arrays
 with_b n = record {
-  cells = written (replicate n free_cell) (
+  cells = with_cells (replicate n free_cell) (
       record { place = 1; base = pos 1; check = 1 } ∷ record { place = 2; base = negsuc 0; check = 100 } ∷ record { place = 3; base = negsuc 1; check = 101 }
       ∷ record { place = 100; base = pos 1; check = 1 } ∷ record { place = 101; base = pos 2; check = 1 } ∷ []);
   index = 2 ∷ 3 ∷ 0 ∷ [];
@@ -27,7 +27,7 @@ with_b n = record {
 -- with a, b and ab
 abbrev with_ab : Arrays
 with_ab = record {
-  cells = written (replicate 104 free_cell) (
+  cells = with_cells (replicate 104 free_cell) (
       record { place = 1; base = pos 1; check = 1 } ∷ record { place = 2; base = negsuc 2; check = 103 } ∷ record { place = 3; base = negsuc 1; check = 101 }
       ∷ record { place = 4; base = negsuc 0; check = 100 } ∷ record { place = 100; base = pos 3; check = 1 } ∷ record { place = 101; base = pos 2; check = 1 }
       ∷ record { place = 103; base = pos 1; check = 100 } ∷ []);
@@ -35,7 +35,7 @@ with_ab = record {
 }
 
 -- what a list holds with so many words
-abbrev counted : Arrays → ℕ → Held
+abbrev counted : Arrays → ℕ → TrieParts
 counted xs n = record { cells = xs.cells; index = xs.index; count = n }
 
 pub examples : Examples

@@ -3,7 +3,7 @@ use Rattle.std.proofs.Common.{◌≡◌, ℕ, ◌-◌, List, [], ◌∷◌, repl
 use Rattle.cells.specs.declared.Cell.{Cell}
 use Rattle.cells.specs.Cells.{free_cell, codes_below}
 use Rattle.cells.specs.Placing.{moved_list}
-use Rattle.cells.specs.Examples.{new_arrays, written}
+use Rattle.cells.specs.Examples.{new_arrays, with_cells}
 use Rattle.cells.proofs.Basics.{some_same}
 use Rattle.link_table.specs.Tables.{found}
 use Rattle.link_table.specs.declared.triple.Triple.{Triple}
@@ -14,20 +14,20 @@ use Rattle.worked_examples.proofs.Triples.{triple, link, Known, starts, counted,
 
 -- the cells of a table of n cells after the first triple got the number u + 1
 abbrev one_in : ℕ → ℕ → List Cell
-one_in n u = written (replicate n free_cell) (
+one_in n u = with_cells (replicate n free_cell) (
     record { place = 1; base = pos 1; check = 1 } ∷ record { place = 3; base = pos 1; check = 1 } ∷ record { place = 4; base = pos 1; check = 3 }
     ∷ record { place = 5; base = pos 2; check = 7 } ∷ record { place = 6; base = negsuc u; check = 5 } ∷ record { place = 7; base = pos 3; check = 4 } ∷ [])
 
 -- and the second v + 1
 abbrev two_in : ℕ → ℕ → ℕ → List Cell
-two_in n u v = written (replicate n free_cell) (
+two_in n u v = with_cells (replicate n free_cell) (
     record { place = 1; base = pos 1; check = 1 } ∷ record { place = 3; base = pos 1; check = 1 } ∷ record { place = 4; base = pos 1; check = 3 }
     ∷ record { place = 5; base = pos 2; check = 7 } ∷ record { place = 6; base = negsuc u; check = 5 } ∷ record { place = 7; base = pos 3; check = 4 }
     ∷ record { place = 8; base = pos 7; check = 4 } ∷ record { place = 9; base = pos 6; check = 8 } ∷ record { place = 10; base = negsuc v; check = 9 } ∷ [])
 
 -- and the third w + 1: the leaf of the first moved from 6 to 11
 abbrev three_in : ℕ → ℕ → ℕ → List Cell
-three_in u v w = written (replicate 13 free_cell) (
+three_in u v w = with_cells (replicate 13 free_cell) (
     record { place = 1; base = pos 1; check = 1 } ∷ record { place = 3; base = pos 1; check = 1 } ∷ record { place = 4; base = pos 1; check = 3 }
     ∷ record { place = 5; base = pos 7; check = 7 } ∷ record { place = 7; base = pos 3; check = 4 } ∷ record { place = 8; base = pos 7; check = 4 }
     ∷ record { place = 9; base = pos 6; check = 8 } ∷ record { place = 10; base = negsuc v; check = 9 } ∷ record { place = 11; base = negsuc u; check = 5 }
@@ -35,7 +35,7 @@ three_in u v w = written (replicate 13 free_cell) (
 
 -- and the second was taken out
 abbrev two_left : ℕ → ℕ → List Cell
-two_left u w = written (replicate 13 free_cell) (
+two_left u w = with_cells (replicate 13 free_cell) (
     record { place = 1; base = pos 1; check = 1 } ∷ record { place = 3; base = pos 1; check = 1 } ∷ record { place = 4; base = pos 1; check = 3 }
     ∷ record { place = 5; base = pos 7; check = 7 } ∷ record { place = 7; base = pos 3; check = 4 } ∷ record { place = 11; base = negsuc u; check = 5 }
     ∷ record { place = 12; base = negsuc w; check = 5 } ∷ [])

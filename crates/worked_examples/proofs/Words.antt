@@ -8,46 +8,46 @@ use Rattle.cells.specs.Placing.{Arrays, enter}
 use Rattle.cells.specs.Examples.{new_arrays}
 use Rattle.cells.proofs.Basics.{some_same}
 use Rattle.double_array.specs.Views.{cells_of, index_of}
-use Rattle.trie_list.specs.Paths.{path_of}
+use Rattle.trie_list.specs.Paths.{path_of_word}
 use Rattle.trie_list.specs.Rolls.{words_of}
-use Rattle.trie_list.specs.Trie.{roll_of, room_of, Placed, Made}
+use Rattle.trie_list.specs.Trie.{roll_of, room_of, Placed, IsNewTrieList}
 use Rattle.trie_list.specs.declared.list.TrieList.{TrieList}
 use Rattle.trie_list.proofs.Lists.{length_roll}
-use Rattle.worked_examples.specs.Examples.{Held, held_by, Enters}
+use Rattle.worked_examples.specs.Examples.{TrieParts, held_by, Enters}
 use Rattle.worked_examples.proofs.Starts.{new_cells, new_index}
 
 -- the words of a list, by what it holds
-abbrev pub roll_at : Held → List (List ℕ)
+abbrev pub roll_at : TrieParts → List (List ℕ)
 roll_at v = words_of v.cells v.index v.count
 
 -- whether it has room for a word
-abbrev pub room_at : Held → List ℕ → Bool
-room_at v word = ltb v.count (length v.index) && is_some (enter v.cells v.index (path_of word) v.count)
+abbrev pub room_at : TrieParts → List ℕ → Bool
+room_at v word = ltb v.count (length v.index) && is_some (enter v.cells v.index (path_of_word word) v.count)
 
 -- what entering a word into it answers
-abbrev pub answer_at : Held → List ℕ → Result ℕ ListFault
+abbrev pub answer_at : TrieParts → List ℕ → Result ℕ ListFault
 answer_at v word = enter_answer (roll_at v) (room_at v word) word
 
 -- whether the word becomes its last
-abbrev pub new_at : Held → List ℕ → Bool
+abbrev pub new_at : TrieParts → List ℕ → Bool
 new_at v word = is_new (roll_at v) (room_at v word) word
 
 -- a new list of n cells
-abbrev pub new_held : ℕ → Held
+abbrev pub new_held : ℕ → TrieParts
 new_held n = record { cells = (new_arrays n 3).cells; index = replicate 3 0; count = 0 }
 
-pub starts : (n : ℕ) (s : TrieList) → min n 1048576 ≡ n → Made n 3 s → held_by s ≡ new_held n
+pub starts : (n : ℕ) (s : TrieList) → min n 1048576 ≡ n → IsNewTrieList n 3 s → held_by s ≡ new_held n
 starts n s small m =
     let cells = new_cells n (cells_of s.array) (m.cells_long ∙ small) m.cells_clear in
     let index = new_index 3 (index_of s.array) m.index_long m.index_zero in
     λ k. record { cells = cells k; index = index k; count = ap length m.no_words k }
 
-module _ (s t : TrieList) (word : List ℕ) (r : Result ℕ ListFault) (h : Enters s word r t) (v : Held) (e : held_by s ≡ v) where
+module _ (s t : TrieList) (word : List ℕ) (r : Result ℕ ListFault) (h : Enters s word r t) (v : TrieParts) (e : held_by s ≡ v) where
   rolls : roll_of s ≡ roll_at v
   rolls = ap (words_of (cells_of s.array) (index_of s.array)) (sym (length_roll s)) ∙ ap roll_at e
 
   rooms : room_of s word ≡ room_at v word
-  rooms = ap (λ (w : Held). room_at w word) e
+  rooms = ap (λ (w : TrieParts). room_at w word) e
 
   answers : enter_answer (roll_of s) (room_of s word) word ≡ answer_at v word
   answers = ap (λ (ws : List (List ℕ)). enter_answer ws (room_of s word) word) rolls ∙ ap (λ (b : Bool). enter_answer (roll_at v) b word) rooms
@@ -56,13 +56,13 @@ module _ (s t : TrieList) (word : List ℕ) (r : Result ℕ ListFault) (h : Ente
   news = ap (λ (ws : List (List ℕ)). is_new ws (room_of s word) word) rolls ∙ ap (λ (b : Bool). is_new (roll_at v) b word) rooms
 
   -- a new word with room is the last
-  pub entered : (n : ℕ) (xs : Arrays) → answer_at v word ≡ Ok n → new_at v word ≡ true → enter v.cells v.index (path_of word) v.count ≡ Some xs
+  pub entered : (n : ℕ) (xs : Arrays) → answer_at v word ≡ Ok n → new_at v word ≡ true → enter v.cells v.index (path_of_word word) v.count ≡ Some xs
       → (r ≡ Ok n) × (held_by t ≡ record { cells = xs.cells; index = xs.index; count = v.count + 1 })
   entered n xs ok new step =
       let left = subst (EnterLeaves roll_of Placed s word t) (news ∙ new) h.after in
       let after : Arrays = record { cells = cells_of t.array; index = index_of t.array } in
-      let same : after ≡ xs = some_same after xs (sym left.0.arrays_after ∙ ap (λ (w : Held). enter w.cells w.index (path_of word) w.count) e ∙ step) in
-      let count = ap length left.1 ∙ length_push (roll_of s) word ∙ ap (λ (w : Held). w.count + 1) e in
+      let same : after ≡ xs = some_same after xs (sym left.0.arrays_after ∙ ap (λ (w : TrieParts). enter w.cells w.index (path_of_word word) w.count) e ∙ step) in
+      let count = ap length left.1 ∙ length_push (roll_of s) word ∙ ap (λ (w : TrieParts). w.count + 1) e in
       (h.answer ∙ answers ∙ ok, λ k. record { cells = (same k).cells; index = (same k).index; count = count k })
 
   -- without room it is refused

@@ -10,11 +10,11 @@ use Rattle.script.specs.declared.alphabets.MorphemeClass.TheVariants.{Noun}
 use Rattle.lexicon.specs.Answers.{enter_answer, is_new, EnterLeaves}
 use Rattle.cells.specs.declared.Cell.{Cell}
 use Rattle.cells.specs.Cells.{free_cell}
-use Rattle.cells.specs.Examples.{written}
+use Rattle.cells.specs.Examples.{with_cells}
 use Rattle.double_array.specs.Views.{cells_of, index_of}
 use Rattle.trie_list.specs.contracts.calls.TrieListReadableList.TheImpl.{ghosts as readable}
 use Rattle.trie_list.specs.contracts.calls.TrieListGrowingList.TheImpl.{ghosts as growing}
-use Rattle.trie_list.specs.Trie.{Made as NewList}
+use Rattle.trie_list.specs.Trie.{IsNewTrieList as NewList}
 use Rattle.trie_list.specs.declared.list.TrieList.{TrieList}
 
 -- the words a, b and ab, in labels
@@ -28,12 +28,12 @@ abbrev pub ab_word : List ℕ
 ab_word = 97 ∷ 98 ∷ []
 
 -- what a trie list holds: its cells, its index and how many words it has
-pub record Held : Type 0 where
+pub record TrieParts : Type 0 where
   pub cells : List Cell
   pub index : List ℕ
   pub count : ℕ
 
-abbrev pub held_by : TrieList → Held
+abbrev pub held_by : TrieList → TrieParts
 held_by s = record { cells = cells_of s.array; index = index_of s.array; count = length (readable.roll s) }
 
 -- entering the word into the list s was answered r and left the list t
@@ -68,7 +68,7 @@ no_room = record { number = 5; layer = WordList; side = Neither }
 pub record Examples : Type 0 where
   -- in a list of 104 cells a, b and ab get the numbers 1, 2 and 3; the leaf of a moves from 2 to 4, and its index entry follows
   pub three_words : (run : ThreeWords 104) → (run.a_answer ≡ Ok 1) × (run.b_answer ≡ Ok 2) × (run.ab_answer ≡ Ok 3) × (held_by run.with_ab ≡ record {
-    cells = written (replicate 104 free_cell) (
+    cells = with_cells (replicate 104 free_cell) (
         record { place = 1; base = pos 1; check = 1 } ∷ record { place = 2; base = negsuc 2; check = 103 } ∷ record { place = 3; base = negsuc 1; check = 101 }
         ∷ record { place = 4; base = negsuc 0; check = 100 } ∷ record { place = 100; base = pos 3; check = 1 } ∷ record { place = 101; base = pos 2; check = 1 }
         ∷ record { place = 103; base = pos 1; check = 100 } ∷ []);
@@ -77,7 +77,7 @@ pub record Examples : Type 0 where
   })
   -- in a list of 103 cells ab has no place and is refused: number 5, layer word list, side neither; the list is what a and b left
   pub two_words : (run : ThreeWords 103) → (run.a_answer ≡ Ok 1) × (run.b_answer ≡ Ok 2) × (list_reported run.ab_answer ≡ Some no_room) × (run.with_ab ≡ run.with_b) × (held_by run.with_ab ≡ record {
-    cells = written (replicate 103 free_cell) (
+    cells = with_cells (replicate 103 free_cell) (
         record { place = 1; base = pos 1; check = 1 } ∷ record { place = 2; base = negsuc 0; check = 100 } ∷ record { place = 3; base = negsuc 1; check = 101 }
         ∷ record { place = 100; base = pos 1; check = 1 } ∷ record { place = 101; base = pos 2; check = 1 } ∷ []);
     index = 2 ∷ 3 ∷ 0 ∷ [];

@@ -6,7 +6,7 @@ use Rattle.refusal.specs.declared.Side.TheVariants.{Neither}
 use Rattle.refusal.specs.declared.Refusal.{Refusal}
 use Rattle.refusal.specs.declared.Report.{Report}
 use Rattle.script.specs.Words.{word_sized}
-use Rattle.link_table.specs.Tables.{Made}
+use Rattle.link_table.specs.Tables.{IsNewTable}
 use Rattle.history.specs.declared.replies.Link.{Link}
 use Rattle.history.specs.Kits.{Kit, State, state_of, number_in}
 use Rattle.history.specs.Calls.{Ties, Deletes, figures_of}
@@ -38,7 +38,7 @@ module _ {S L R : Type 0} (K : Kit S L R) where
     pub two : Word store.list 2
     pub three : Word store.list 3
     pub three_records : length store.records ≡ 3
-    pub made : Made n 3 (length store.records) store.table
+    pub made : IsNewTable n 3 (length store.records) store.table
 
   -- x and y were tied by the relation q with a sound record: the answer was n, and it left t
   pub record Tied (s : State L R) (x y : List S) (q : ℕ) (n : Result Link Refusal) (t : State L R) : Type 0 where

@@ -1,6 +1,6 @@
 use Rattle.std.proofs.Common.{Ok, sym}
 use Rattle.std.proofs.lemmas.Bool.{cond-true, lt-ltb}
-use Rattle.entry.specs.declared.Entry.TheVariants.{New}
+use Rattle.entry.specs.declared.WordEntry.TheVariants.{New}
 use Rattle.entry.proofs.Entries.{spelled_slice, told}
 use Rattle.entry.proofs.enter_word.Goals as goal
 

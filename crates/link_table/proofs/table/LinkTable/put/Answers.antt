@@ -2,7 +2,7 @@ use Rattle.std.proofs.Common.{◌≡◌, ℕ, ◌+◌, ◌<◌, ◌≤◌, false
 use Rattle.std.proofs.lemmas.Bool.{ne_eqb}
 use Rattle.std.proofs.lemmas.Result.{err_from_is_err_and}
 use Rattle.cells.specs.Walking.{number_at}
-use Rattle.double_array.specs.Entries.{Added, Entry}
+use Rattle.double_array.specs.Entries.{Added, EntersPath}
 use Rattle.double_array.specs.Views.{cells_of, index_of}
 use Rattle.link_table.specs.declared.faults.LinkFault.{LinkFault}
 use Rattle.link_table.specs.Tables.{limit, found, numbers, all_held}
@@ -53,7 +53,7 @@ returns-in_err-enter c =
     let m = c.in_err-enter.ensures in
     let d = c.enter.new.self in
     let f = c.in_err-enter.field-0.0 in
-    let did = subst (λ (p : List ℕ). Entry (cells_of s.array) (index_of s.array) p (c.in-Some.place + 1) (Err f) (cells_of d) (index_of d)) c.write_code-path.ensures.path m.cells in
+    let did = subst (λ (p : List ℕ). EntersPath (cells_of s.array) (index_of s.array) p (c.in-Some.place + 1) (Err f) (cells_of d) (index_of d)) c.write_code-path.ensures.path m.cells in
     let said = err_from_is_err_and c.from_residual.result c.from_residual.ensures.1 in
     let new = absent (goal.at.returns-in_err-enter c).After-limit in
     let refused = put_refused s c.args.triple c.in-Some.place c.write_code-path.ensures.codes new (low at) (vacant at) (some at) f did.0 in
@@ -71,5 +71,5 @@ returns c =
     let d = c.enter.new.self in
     let path = c.write_code-path.ensures.path in
     let added = subst (λ (p : List ℕ). Added (cells_of s.array) p (place + 1) (cells_of d)) path m.paths in
-    let did = subst (λ (p : List ℕ). Entry (cells_of s.array) (index_of s.array) p (place + 1) (Ok tt) (cells_of d) (index_of d)) path m.cells in
+    let did = subst (λ (p : List ℕ). EntersPath (cells_of s.array) (index_of s.array) p (place + 1) (Ok tt) (cells_of d) (index_of d)) path m.cells in
     (put_accepted s t place codes new (low at) (vacant at) (some at) (record { cells = cells_of d; index = index_of d }) did.1, put_done s t place codes new (low at) (vacant at) _ m.sizes.1 added did.1)

@@ -7,8 +7,8 @@ use Rattle.trie_list.specs.Trie.{roll_of}
 use Rattle.trie_list.proofs.Lists.{length_roll}
 use Rattle.trie_list.proofs.calls.TrieListReadableList.spell.Goals as goal
 
-pub labels_of-labels-requires : goal.labels_of-labels-requires
-labels_of-labels-requires c = let s = c.args.self.now in sym (numbered_by (roll_of s) c.args.number s.count (length_roll s)) ∙ sym c.if-not-is_numbered.ensures
+pub word_of-labels-requires : goal.word_of-labels-requires
+word_of-labels-requires c = let s = c.args.self.now in sym (numbered_by (roll_of s) c.args.number s.count (length_roll s)) ∙ sym c.if-not-is_numbered.ensures
 
 pub returns-then-not-is_numbered : goal.returns-then-not-is_numbered
 returns-then-not-is_numbered c =
@@ -26,7 +26,7 @@ returns c =
     let out = c.args.out.now in
     let some : numbered (roll_of s) c.args.number ≡ true = sym (numbered_by (roll_of s) c.args.number s.count (length_roll s)) ∙ sym c.if-not-is_numbered.ensures in
     let word = c.as_slice.result.now in
-    let same = c.as_slice.ensures.value ∙ c.labels_of-labels.ensures in
+    let same = c.as_slice.ensures.value ∙ c.word_of-labels.ensures in
     record {
       answer = put_answer (roll_of s) c.args.number out word some same c.put.result c.ok_or.result c.put.ensures.end c.ok_or.ensures.value;
       output = put_output (roll_of s) c.args.number out word some same c.put.new.out c.put.ensures.after;

@@ -3,9 +3,9 @@ use Rattle.std.proofs.lemmas.Result.{err_from_is_err_and}
 use Rattle.trie_list.specs.Faults.{list_fault_of}
 use Rattle.cells.specs.Placing.{Arrays, enter}
 use Rattle.double_array.specs.declared.faults.PathFault.{PathFault}
-use Rattle.double_array.specs.Entries.{Entry, refusal}
+use Rattle.double_array.specs.Entries.{EntersPath, refusal}
 use Rattle.double_array.specs.Views.{cells_of, index_of}
-use Rattle.trie_list.specs.Paths.{path_of}
+use Rattle.trie_list.specs.Paths.{path_of_word}
 use Rattle.trie_list.proofs.RollsLemmas.{grown_listed, grown_words}
 use Rattle.trie_list.proofs.Lists.{listed, length_roll, placed, append_refused, refused_place, room_yes, room_full, entered_as}
 use Rattle.trie_list.proofs.PathFaults.{passed_ok, passed_err}
@@ -20,8 +20,8 @@ module _ (c : In_ok-map_err) where
   abbrev after : Arrays
   after = record { cells = cells_of c.enter.new.self; index = index_of c.enter.new.self }
 
-  did : enter (cells_of c.args.self.now.array) (index_of c.args.self.now.array) (path_of c.args.word.now) c.args.self.now.count ≡ Some after
-  did = entered_as c.args.self.now c.args.word.now c.requires.sized c.requires.absent (λ k. omega (arith, c.type_inv.word k)) left _ after (c.as_slice.ensures.value ∙ c.path_of-path.ensures) (subst (λ (m : Result (Unit {0}) PathFault). Entry (cells_of c.args.self.now.array) (index_of c.args.self.now.array) c.as_slice.result.now (c.args.self.now.count + 1) m (cells_of c.enter.new.self) (index_of c.enter.new.self)) (passed_ok c.enter.result c.map_err.result c.map_err.ensures.cases c.in_ok-map_err.was) c.enter.ensures.cells).1
+  did : enter (cells_of c.args.self.now.array) (index_of c.args.self.now.array) (path_of_word c.args.word.now) c.args.self.now.count ≡ Some after
+  did = entered_as c.args.self.now c.args.word.now c.requires.sized c.requires.absent (λ k. omega (arith, c.type_inv.word k)) left _ after (c.as_slice.ensures.value ∙ c.path_of_word-path.ensures) (subst (λ (m : Result (Unit {0}) PathFault). EntersPath (cells_of c.args.self.now.array) (index_of c.args.self.now.array) c.as_slice.result.now (c.args.self.now.count + 1) m (cells_of c.enter.new.self) (index_of c.enter.new.self)) (passed_ok c.enter.result c.map_err.result c.map_err.ensures.cases c.in_ok-map_err.was) c.enter.ensures.cells).1
 
 pub returns-then-self-index : goal.returns-then-self-index
 returns-then-self-index c =
@@ -34,9 +34,9 @@ returns-in_err-map_err c =
     let w = c.args.word.now in
     let m = passed_err c.enter.result c.map_err.result c.in_err-map_err.field-0.0 c.map_err.ensures.cases c.in_err-map_err.was in
     let e = m.0 in
-    let cells = subst (λ (k : Result (Unit {0}) PathFault). Entry (cells_of s.array) (index_of s.array) c.as_slice.result.now (s.count + 1) k (cells_of c.enter.new.self) (index_of c.enter.new.self)) m.1 c.enter.ensures.cells in
+    let cells = subst (λ (k : Result (Unit {0}) PathFault). EntersPath (cells_of s.array) (index_of s.array) c.as_slice.result.now (s.count + 1) k (cells_of c.enter.new.self) (index_of c.enter.new.self)) m.1 c.enter.ensures.cells in
     let same = subst (λ (k : Result (Unit {0}) PathFault). OnErr k (c.enter.new.self ≡ s.array)) m.1 c.enter.ensures.same in
-    let slice = c.as_slice.ensures.value ∙ c.path_of-path.ensures in
+    let slice = c.as_slice.ensures.value ∙ c.path_of_word-path.ensures in
     let long = ap length c.index.ensures in
     let left : s.count < length (index_of s.array) = omega (arith, long, c.if-self-index.false) in
     let said = refused_place s w c.requires.sized c.requires.absent (λ k. omega (arith, c.type_inv.word k)) left e

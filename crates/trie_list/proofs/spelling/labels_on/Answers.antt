@@ -4,14 +4,14 @@ use Rattle.std.proofs.lemmas.List.{take_all}
 use Rattle.std.proofs.lemmas.Bool.{and_parts}
 use Rattle.lexicon.specs.Rolls.{label_sized}
 use Rattle.cells.specs.Cells.{label_of}
-use Rattle.trie_list.specs.Paths.{ends_once, labels_of, word_path}
+use Rattle.trie_list.specs.Paths.{ends_once, labels_on, word_path}
 use Rattle.trie_list.proofs.PathsLemmas.{label_before, labels_kept, kept_more, taken_few, word_path_size}
-use Rattle.trie_list.proofs.spelling.labels_of.Goals as goal
-use Rattle.trie_list.proofs.spelling.labels_of.Goals.{in-Some, in_default}
+use Rattle.trie_list.proofs.spelling.labels_on.Goals as goal
+use Rattle.trie_list.proofs.spelling.labels_on.Goals.{in-Some, in_default}
 
 -- a word's path ends once
 ends : (p : List ℕ) → word_path p ≡ true → ends_once p ≡ true
-ends p word = (and_parts (ends_once p) (label_sized (labels_of p)) word).0
+ends p word = (and_parts (ends_once p) (label_sized (labels_on p)) word).0
 
 pub push-requires : goal.push-requires
 push-requires c =

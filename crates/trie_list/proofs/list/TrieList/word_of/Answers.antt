@@ -2,10 +2,10 @@ use Rattle.std.proofs.Common.{◌≡◌, ℕ, ◌-◌, List, ◌++◌, length, t
 use Rattle.std.proofs.lemmas.List.{take_at}
 use Rattle.cells.proofs.Basics.{no_some}
 use Rattle.double_array.specs.Views.{cells_of, index_of}
-use Rattle.trie_list.specs.Paths.{labels_of}
+use Rattle.trie_list.specs.Paths.{labels_on}
 use Rattle.trie_list.specs.Rolls.{path_at}
 use Rattle.trie_list.proofs.Lists.{path_known, word_labels}
-use Rattle.trie_list.proofs.list.TrieList.labels_of.Goals as goal
+use Rattle.trie_list.proofs.list.TrieList.word_of.Goals as goal
 
 -- the slice that was written is the path
 written_path : (size : ℕ) (path out after : List ℕ) → size ≡ length path → after ≡ path ++ drop size out → take (size - 0) after ≡ path
@@ -17,7 +17,7 @@ returns c =
     let p = path_at (cells_of s.array) (index_of s.array) (c.args.number - 1) in
     let m = c.in-Ok.ensures.path in
     let same = written_path c.in-Ok.size p _ c.path_of.new.out m.1 m.2 in
-    c.labels_of.ensures ∙ ap labels_of same ∙ word_labels s c.args.number c.requires
+    c.labels_on.ensures ∙ ap labels_on same ∙ word_labels s c.args.number c.requires
 
 pub returns-in_default : goal.returns-in_default
 returns-in_default c = absurd (no_some c.in_default.field-0 (sym (path_known c.args.self.now c.args.number c.requires) ∙ c.in_default.ensures.path.0))
