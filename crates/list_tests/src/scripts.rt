@@ -1,6 +1,6 @@
 // Spellings, and the numbers of refusals.
-use refusal::{Refusal, Side};
 use lexicon::ListFault;
+use refusal::{Refusal, Side};
 use script::{MorphemeClass, MorphemeSign, Script, SpellFault, spell_word};
 use std::process::Abort;
 use std::test::Fail;

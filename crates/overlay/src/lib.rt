@@ -9,14 +9,11 @@
 #[cfg(test)]
 mod tests;
 
-ghost use Rattle.std.specs.Prelude.{◌≡◌, ℕ, ◌+◌, ◌≤◌, ◌++◌, List, [], cond, length, Some, None, ◌&&◌, ◌==◌, nat_lt};
+ghost use Rattle.std.specs.Prelude.{◌≡◌, ℕ, ◌+◌, ◌≤◌, ◌++◌, List, [], cond, length, Some, None, ◌&&◌, ◌==◌, nat_lt, ◌↔◌};
 ghost use Rattle.lexicon.specs.Rolls.{Lawful};
 
-use lexicon::{GrowingList, ListFault, ReadableList};
+use lexicon::{GrowingList, ListFault, MAX_WORDS, ReadableList};
 use std::marker::Model;
-
-// A list has at most as many words as a 16-bit number counts.
-const MAX_WORDS: u16 = 65_535;
 
 // A list above another: the words of the lower list, and then those of the upper.
 #[derive(Drop)]
@@ -90,10 +87,18 @@ impl<L: ReadableList, U: GrowingList> GrowingList for Overlay<L, U> {
             return Ok(number);
         }
         let lower = self.lower.count();
-        if lower + self.upper.count() == MAX_WORDS {
+        if (lower + self.upper.count()) as usize == MAX_WORDS {
             return Err(ListFault::NoRoom);
         }
         let number = self.upper.enter(word)?;
         Ok(lower + number)
     }
 }
+
+// What the list means to the two interfaces: the words of both lists, room where a number is left and the upper
+// list has room, and an entry into the upper list that leaves the lower as it is.
+pub fn meaning<L: ReadableList, U: GrowingList>()
+    ensures roll { (v : L × U) → ⟦<Overlay<L, U> as ReadableList>⟧.roll v ≡ L.ReadableList.roll v.0 ++ U.ReadableList.roll v.1 }
+    ensures room { (v : L × U) (w : List ℕ) → ⟦<Overlay<L, U> as GrowingList>⟧.room v w ≡ (nat_lt (length (L.ReadableList.roll v.0) + length (U.ReadableList.roll v.1)) 65535 && U.GrowingList.room v.1 w) }
+    ensures enters { (s t : L × U) (w : List ℕ) → ⟦<Overlay<L, U> as GrowingList>⟧.enters s w t ↔ (U.GrowingList.enters s.1 w t.1 × (t.0 ≡ s.0)) }
+{}

@@ -11,7 +11,7 @@ pub overflow_add-result : goal.overflow_add-result
 overflow_add-result g c =
     let a = g.L.ReadableList.roll c.self.inside.lower in
     let b = g.U.ReadableList.roll c.self.inside.upper in
-    let few : length a + length b < 65535 = omega (arith, c.self.invariant.few, length-append a b, c.count-lower.ensures.count, c.count.ensures.count, c.if-lower-count.false) in
+    let few : length a + length b < 65535 = omega (arith, c.self.invariant.few, length-append a b, c.count-lower.ensures.count, c.count.ensures.count, c.if-lower-count-eq-MAX_WORDS.false) in
     let lacks : ◌≡◌ {A = Result (Option ℕ) ListFault} (Ok None) (find_answer (a ++ b) c.args.word.now) =
     subst (λ (v : g.row.L.Denot × g.row.U.Denot). ◌≡◌ {A = Result (Option ℕ) ListFault} (Ok None) (find_answer (g.L.ReadableList.roll v.0 ++ g.U.ReadableList.roll v.1) c.args.word.now)) (sym c.self.view_is)
     (ap (λ (o : Option ℕ). Ok o) (sym c.in_default.is) ∙ c.in_ok-number.ensures) in
@@ -23,7 +23,7 @@ pub invariant_of-self-2 : goal.invariant_of-self-2
 invariant_of-self-2 g c =
     let a = g.L.ReadableList.roll c.self.inside.lower in
     let b = g.U.ReadableList.roll c.self.inside.upper in
-    let few : length a + length b < 65535 = omega (arith, c.self.invariant.few, length-append a b, c.count-lower.ensures.count, c.count.ensures.count, c.if-lower-count.false) in
+    let few : length a + length b < 65535 = omega (arith, c.self.invariant.few, length-append a b, c.count-lower.ensures.count, c.count.ensures.count, c.if-lower-count-eq-MAX_WORDS.false) in
     let lacks : ◌≡◌ {A = Result (Option ℕ) ListFault} (Ok None) (find_answer (a ++ b) c.args.word.now) =
     subst (λ (v : g.row.L.Denot × g.row.U.Denot). ◌≡◌ {A = Result (Option ℕ) ListFault} (Ok None) (find_answer (g.L.ReadableList.roll v.0 ++ g.U.ReadableList.roll v.1) c.args.word.now)) (sym c.self.view_is)
     (ap (λ (o : Option ℕ). Ok o) (sym c.in_default.is) ∙ c.in_ok-number.ensures) in
@@ -35,7 +35,7 @@ pub returns-clause-answer : goal.returns-clause-answer
 returns-clause-answer g c =
     let a = g.L.ReadableList.roll c.self.inside.lower in
     let b = g.U.ReadableList.roll c.self.inside.upper in
-    let few : length a + length b < 65535 = omega (arith, c.self.invariant.few, length-append a b, c.count-lower.ensures.count, c.count.ensures.count, c.if-lower-count.false) in
+    let few : length a + length b < 65535 = omega (arith, c.self.invariant.few, length-append a b, c.count-lower.ensures.count, c.count.ensures.count, c.if-lower-count-eq-MAX_WORDS.false) in
     let lacks : ◌≡◌ {A = Result (Option ℕ) ListFault} (Ok None) (find_answer (a ++ b) c.args.word.now) =
     subst (λ (v : g.row.L.Denot × g.row.U.Denot). ◌≡◌ {A = Result (Option ℕ) ListFault} (Ok None) (find_answer (g.L.ReadableList.roll v.0 ++ g.U.ReadableList.roll v.1) c.args.word.now)) (sym c.self.view_is)
     (ap (λ (o : Option ℕ). Ok o) (sym c.in_default.is) ∙ c.in_ok-number.ensures) in
@@ -49,7 +49,7 @@ pub returns-clause-after : goal.returns-clause-after
 returns-clause-after g c =
     let a = g.L.ReadableList.roll c.self.inside.lower in
     let b = g.U.ReadableList.roll c.self.inside.upper in
-    let few : length a + length b < 65535 = omega (arith, c.self.invariant.few, length-append a b, c.count-lower.ensures.count, c.count.ensures.count, c.if-lower-count.false) in
+    let few : length a + length b < 65535 = omega (arith, c.self.invariant.few, length-append a b, c.count-lower.ensures.count, c.count.ensures.count, c.if-lower-count-eq-MAX_WORDS.false) in
     let lacks : ◌≡◌ {A = Result (Option ℕ) ListFault} (Ok None) (find_answer (a ++ b) c.args.word.now) =
     subst (λ (v : g.row.L.Denot × g.row.U.Denot). ◌≡◌ {A = Result (Option ℕ) ListFault} (Ok None) (find_answer (g.L.ReadableList.roll v.0 ++ g.U.ReadableList.roll v.1) c.args.word.now)) (sym c.self.view_is)
     (ap (λ (o : Option ℕ). Ok o) (sym c.in_default.is) ∙ c.in_ok-number.ensures) in

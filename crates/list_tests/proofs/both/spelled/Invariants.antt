@@ -1,5 +1,5 @@
 use Rattle.std.proofs.Common.{◌≡◌, length}
-use Rattle.trie_tests.proofs.both.spelled.Given as goal
+use Rattle.list_tests.proofs.both.spelled.Given as goal
 
 abbrev pub invariant-loop-number : goal.invariant-loop-number
 invariant-loop-number g l = length l.out ≡ 7
