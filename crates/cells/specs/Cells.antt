@@ -91,6 +91,6 @@ label_code b = b + 2
 abbrev pub label_of : ℕ → Option ℕ
 label_of a = cond (nat_le 2 a && nat_lt a 258) (Some (a - 2)) None
 
--- the path of labels: the code of each
+-- the path of labels: the code of each, and no end sign
 abbrev pub path_of_labels : List ℕ → List ℕ
 path_of_labels labels = map label_code labels

@@ -1,10 +1,10 @@
 -- Worked examples of the rules.
-use Rattle.std.specs.Prelude.{◌≡◌, ℕ, suc, List, [], ◌∷◌, replicate, ℤ, pos, negsuc, Some, None, Option, slice_set}
+use Rattle.std.specs.Prelude.{◌≡◌, ℕ, suc, List, [], ◌∷◌, length, replicate, ℤ, pos, negsuc, Some, None, Option, slice_set}
 use Rattle.cells.specs.declared.Cell.{Cell}
 use Rattle.cells.specs.Cells.{free_cell, root_cell, base_of}
 use Rattle.cells.specs.Placing.{Arrays, then_place, grow, enter, undo}
 use Rattle.cells.specs.Pruning.{take_out}
-use Rattle.cells.specs.Counting.{in_use}
+use Rattle.cells.specs.Counting.{in_use, held_paths, beginnings}
 
 -- n cells without a path, with an index of k entries
 abbrev pub new_arrays : ℕ → ℕ → Arrays
@@ -107,6 +107,10 @@ pub record Examples : Type 0 where
   -- an only path is entered and taken out: what is left is the new array
   pub empty : then_with (enter_all (Some (new_arrays 8 3)) 0 (first_path ∷ [])) (λ xs. take_out xs.cells xs.index first_path) ≡ Some (new_arrays 8 3)
   pub two : enter_all (Some (new_arrays 10 3)) 0 two_paths ≡ Some two_held
+  -- climbing from their leaves spells the two paths, and the cells in use are one more than their four beginnings
+  pub held : held_paths two_held.cells ≡ two_paths
+  pub four : length (beginnings two_paths) ≡ 4
+  pub five : in_use two_held.cells ≡ 5
   -- the root's family moves for a third path: both children, and the CHECK of theirs
   pub family : enter_all (Some two_held) 2 ((1 ∷ []) ∷ []) ≡ Some (record {
     cells = with_cells (replicate 10 free_cell) (

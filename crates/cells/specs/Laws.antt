@@ -137,14 +137,14 @@ Counting = (cs : List Cell) (is : List ℕ) (ks : List (List ℕ)) → 1 < lengt
 
 -- bs are the different non-empty beginnings of the paths ks
 pub record BeginningsOf (ks bs : List (List ℕ)) : Type 0 where
-  -- each is one
+  -- each is a beginning of one of them, and not empty
   pub sound : (p : List ℕ) → In bs p → (p ≢ []) × ((rest : List ℕ) × In ks (p ++ rest))
-  -- and each is there
+  -- each such beginning is there
   pub whole : (p rest : List ℕ) → p ≢ [] → In ks (p ++ rest) → In bs p
-  -- once
+  -- and is there once
   pub once : Apart bs
 
--- the beginnings that are counted are these
+-- those that are counted are these
 abbrev pub Beginning : Type 0
 Beginning = (ks : List (List ℕ)) → BeginningsOf ks (beginnings ks)
 

@@ -27,9 +27,9 @@ impl Cell {
 // What an array says: a new one is sound and holds no path; cell 0 is never used; walking finds
 // exactly the paths held; climbing from a cell spells its path; the index leads each number to its
 // leaf; climbing from the leaves spells exactly the held paths; the cells in use are, in an array of
-// two cells or more, one more than the different non-empty beginnings of the held paths; those
-// beginnings are what they are called; a cell is either in use or free; and fewer than two cells
-// hold nothing.
+// two cells or more, one more than the different non-empty beginnings of the held paths, and what is
+// counted are just these; a cell is either in use or free; and fewer than two cells hold no path, have
+// no place for any, and none of them is in use.
 pub fn reading_laws()
     ensures starting { Starting }
     ensures unused { Unused }

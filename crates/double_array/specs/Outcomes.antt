@@ -42,5 +42,5 @@ pub record CountsBeginnings (cs : List Cell) (n : ℕ) : Type 0 where
   pub held : Holds cs (held_paths cs)
   -- and n is counted by their beginnings
   pub count : n ≡ cond (nat_lt 1 (length cs)) (1 + length (beginnings (held_paths cs))) 0
-  -- as by those of any list of exactly the held paths
+  -- as it is by those of any list of exactly the held paths
   pub any : (ks : List (List ℕ)) → 1 < length cs → Holds cs ks → n ≡ 1 + length (beginnings ks)

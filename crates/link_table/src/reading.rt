@@ -42,7 +42,7 @@ impl LinkTable {
     }
 
     // How many cells are in use: one more than the different non-empty beginnings of the present
-    // codes, in an array of two cells or more.
+    // codes, and none in an array of fewer than two cells.
     pub fn in_use(&self) -> usize
         ensures cells { result ≡ in_use (cells_of self.now.array) }
         ensures paths { CountsBeginnings (cells_of self.now.array) result }
