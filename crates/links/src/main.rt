@@ -29,7 +29,12 @@ fn main(rt: HostRuntime) -> io::Result<()> {
     let mut records = vec![in heap; Tally { count: 0 }; RECORD_PLACES]?;
     let cells = vec![in heap; Cell::FREE; CELL_PLACES]?;
     let index = vec![in heap; 0u32; RECORD_PLACES]?;
-    let mut table = RelationTable::new::<u8, TrieList, Tally>(&list, records.as_slice(), cells, index);
+    let mut table = RelationTable::new::<u8, TrieList, Tally>(
+        &list,
+        records.as_slice(),
+        cells,
+        index,
+    );
     let mut input = BufReader::new(heap, rt.stdin())?;
     let mut output = BufWriter::new(heap, rt.stdout())?;
     let mut read = Vec::new(heap);

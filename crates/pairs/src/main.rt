@@ -12,8 +12,8 @@ use listing::LinkRow;
 use record::Tally;
 use refusal::Refusal;
 use requests::{GrowingRequest, Request, perform_growing};
-use std::io;
 use script::WordTriple;
+use std::io;
 use store::RelationTable;
 use trie_list::TrieList;
 

@@ -6,11 +6,11 @@ use link_table::Triple;
 use plain_list::PlainList;
 use record::{Score, Tally};
 use refusal::Refusal;
+use script::WordTriple;
 use std::alloc::{AllocError, AllocGlobal, Global};
 use std::process::Abort;
 use std::test::Fail;
 use store::RelationTable;
-use script::WordTriple;
 
 const ONE: Tally = Tally { count: 1 };
 

@@ -2,9 +2,9 @@
 use cells::Cell;
 use lexicon::ReadableList;
 use record::Record;
+use script::WordTriple;
 use std::alloc::{AllocError, Global};
 use store::RelationTable;
-use script::WordTriple;
 
 // A link table of so many cells and index entries, all with some content.
 pub fn table<L: ReadableList, R: Record>(
