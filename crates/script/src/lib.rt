@@ -8,7 +8,7 @@
 
 ghost use Rattle.std.specs.Prelude.{◌≡◌, ℕ, ◌≤◌, List, length, IfOk};
 ghost use Rattle.std.specs.Result.{result_map_both};
-ghost use Rattle.script.specs.Words.{spell_answer, WordsApart};
+ghost use Rattle.script.specs.Words.{word_sized, spell_answer, WordsApart};
 
 use arrayvec::ArrayVec;
 use std::convert::AsSlice;
@@ -49,6 +49,13 @@ pub enum SpellFault {
     WordLength,
 }
 
+// The word has 1 to 32 symbols.
+pub fn has_word_size<S: Script>(word: &[S]) -> bool
+    ensures { result ≡ word_sized word.now }
+{
+    1 <= word.len() && word.len() <= 32
+}
+
 // The labels of a word, those of one symbol after another. A word of no symbol or of more than 32 is
 // refused.
 pub fn spell_word<S: Script>(word: &[S]) -> Result<ArrayVec<u8, 128>, SpellFault>
@@ -56,7 +63,7 @@ pub fn spell_word<S: Script>(word: &[S]) -> Result<ArrayVec<u8, 128>, SpellFault
     ensures sized { IfOk result (λ v. (1 ≤ length v.items) × (length v.items ≤ 128)) }
     ensures apart { WordsApart S.Script.spelling }
 {
-    if !(1..=32).contains(&word.len()) {
+    if !has_word_size(word) {
         return Err(SpellFault::WordLength);
     }
     let mut labels = ArrayVec::new();

@@ -16,6 +16,11 @@ use Rattle.store.specs.declared.labels.WordPair.{WordPair}
 abbrev pub labels_in : Labels → List ℕ
 labels_in w = w.labels.items
 
+-- a word on a side has the right length, or it is refused
+abbrev pub SizeTested : {S : Type 0} → List S → Side → Result (Unit {0}) Refusal → Type 0
+SizeTested word side (Ok _) = word_sized word ≡ true
+SizeTested word side (Err e) = (word_sized word ≡ false) × (e ≡ WordLength side)
+
 -- a word on a side was spelled, or it has the wrong length
 abbrev pub Spelt : {S : Type 0} → (S → List ℕ) → List S → Side → Result Labels Refusal → Type 0
 Spelt spelling word side (Ok w) = (word_sized word ≡ true) × (labels_in w ≡ spelled spelling word)

@@ -2,14 +2,14 @@
 ghost use Rattle.std.specs.Prelude.{◌≡◌};
 ghost use Rattle.lexicon.specs.Rolls.{number_of};
 ghost use Rattle.history.specs.Kits.{growth_of};
-ghost use Rattle.store.specs.Words.{labels_in, Spelt, PairSpelt, Admitted, KnownTriple, EnteredWord};
+ghost use Rattle.store.specs.Words.{labels_in, SizeTested, Spelt, PairSpelt, Admitted, KnownTriple, EnteredWord};
 
 use super::labels::{Labels, WordPair};
 use lexicon::{GrowingList, ReadableList};
 use link_table::Triple;
 use record::Record;
 use refusal::{Refusal, Side};
-use script::{Script, WordTriple, spell_word};
+use script::{Script, WordTriple, has_word_size, spell_word};
 
 impl Labels {
     // The labels, in their order.
@@ -28,11 +28,23 @@ pub(super) fn spell<S: Script>(word: &[S], side: Side) -> Result<Labels, Refusal
     Ok(Labels { labels })
 }
 
-// The labels of both words of a triple. Refused, in this order: X or Y has the wrong length, the
-// relation is 0.
+// The word on a side has 1 to 32 symbols, or is refused.
+fn test_size<S: Script>(word: &[S], side: Side) -> Result<(), Refusal>
+    ensures { SizeTested word.now side result }
+{
+    if !has_word_size(word) {
+        return Err(Refusal::WordLength(side));
+    }
+    Ok(())
+}
+
+// The labels of both words of a triple. Both lengths are looked at before a word is spelled. Refused, in
+// this order: X or Y has the wrong length, the relation is 0.
 pub(super) fn spell_pair<S: Script>(words: WordTriple<'_, S>) -> Result<WordPair, Refusal>
     ensures { PairSpelt S.Script.spelling words.entry.x.now words.entry.y.now words.entry.relation result }
 {
+    test_size(words.x, Side::First)?;
+    test_size(words.y, Side::Second)?;
     let x = spell(words.x, Side::First)?;
     let y = spell(words.y, Side::Second)?;
     if words.relation == 0 {
