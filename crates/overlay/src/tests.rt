@@ -11,7 +11,7 @@ fn new_words_go_above(rt: HostRuntime) -> Result<(), Fail> {
     assert_eq!(rt; lower.enter(b"a"), Ok(1));
     assert_eq!(rt; lower.enter(b"bc"), Ok(2));
     let upper = PlainList::new(vec![in heap; 0u8; 20]?, vec![in heap; 0u8; 1]?);
-    let mut list = Overlay::new(lower, upper).unwrap(&rt);
+    let mut list = Overlay::new(lower, upper).expect(&rt, "the upper list has no words");
     assert_eq!(rt; list.count(), 2);
     assert_eq!(rt; list.enter(b"bc"), Ok(2));
     assert_eq!(rt; list.enter(b"d"), Ok(3));
