@@ -80,7 +80,8 @@ fn two(text: &[u8]) -> Option<(&[u8], &[u8])>
 
 // The fields where there are just three.
 fn three(text: &[u8]) -> Option<(&[u8], &[u8], &[u8])>
-    ensures { MatchOption result (length (fields text.now) ≢ 3) (λ p. fields text.now ≡ p.0.now ∷ (p.1.now ∷ (p.2.now ∷ []))) }
+    ensures { MatchOption result (length (fields text.now) ≢ 3)
+        (λ p. fields text.now ≡ p.0.now ∷ (p.1.now ∷ (p.2.now ∷ []))) }
 {
     let (first, rest) = cut(text)?;
     let (second, third) = two(rest)?;
@@ -90,7 +91,8 @@ fn three(text: &[u8]) -> Option<(&[u8], &[u8], &[u8])>
 // The fields where there are just four. One function of as many fields as its type says would hand out
 // an array of slices, of which a contract names each by its place, and be no plainer.
 fn four(text: &[u8]) -> Option<(&[u8], &[u8], &[u8], &[u8])>
-    ensures { MatchOption result (length (fields text.now) ≢ 4) (λ p. fields text.now ≡ p.0.now ∷ (p.1.now ∷ (p.2.now ∷ (p.3.now ∷ [])))) }
+    ensures { MatchOption result (length (fields text.now) ≢ 4)
+        (λ p. fields text.now ≡ p.0.now ∷ (p.1.now ∷ (p.2.now ∷ (p.3.now ∷ [])))) }
 {
     let (first, rest) = cut(text)?;
     let (second, third, fourth) = three(rest)?;
@@ -183,7 +185,8 @@ fn letter_asks(letter: char, rest: &[u8]) -> Option<Command<'_>>
 // number just where they are its decimal text.
 #[tactic(auto, using(crate::proofs::Belong::one_to_one, crate::proofs::Lines::line_long, crate::proofs::Lines::line_asks))]
 pub fn parse(line: &[u8]) -> Result<Command<'_>, Refusal>
-    ensures command { MatchResult result (λ c. asked_by line.now ≡ Some (seen c)) (λ e. (e ≡ MalformedLine) × (asked_by line.now ≡ None)) }
+    ensures command { MatchResult result (λ c. asked_by line.now ≡ Some (seen c))
+        (λ e. (e ≡ MalformedLine) × (asked_by line.now ≡ None)) }
     ensures lines { OneToOne }
     ensures numbers { (limit : ℕ) → limit < 2 ^ 64 → ReadsBack limit }
 {

@@ -41,7 +41,8 @@ impl DoubleArray {
 
     // Enters the path with the number, or says why it is refused and changes nothing.
     pub fn enter(&mut self, path: &[u16], number: u32) -> Result<(), PathFault>
-        ensures cells { EntersPath (cells_of self.old) (index_of self.old) path.now number result (cells_of self.new) (index_of self.new) }
+        ensures cells { EntersPath (cells_of self.old) (index_of self.old) path.now number result (cells_of self.new)
+            (index_of self.new) }
         ensures sizes { SameSizes (cells_of self.old) (index_of self.old) (cells_of self.new) (index_of self.new) }
         ensures paths { OnOk result (Added (cells_of self.old) path.now number (cells_of self.new)) }
         ensures same { OnErr result (self.new ≡ self.old) }
@@ -51,7 +52,8 @@ impl DoubleArray {
 
     // Takes the path out and says its number, or changes nothing where the path is not held.
     pub fn remove(&mut self, path: &[u16]) -> Option<u32>
-        ensures cells { Taken (cells_of self.old) (index_of self.old) path.now result (cells_of self.new) (index_of self.new) }
+        ensures cells { Taken (cells_of self.old) (index_of self.old) path.now result (cells_of self.new)
+            (index_of self.new) }
         ensures sizes { SameSizes (cells_of self.old) (index_of self.old) (cells_of self.new) (index_of self.new) }
         ensures paths { Removed (cells_of self.old) path.now (cells_of self.new) }
         ensures same { IfNone result (self.new ≡ self.old) }
@@ -87,7 +89,8 @@ impl DoubleArray {
 
     // The cell that the path leads to from the root: none in an array of fewer than two cells, which has no root.
     pub fn cell_at(&self, path: &[u16]) -> Option<usize>
-        ensures cell { result ≡ (if nat_lt 1 (length (cells_of self.now)) then cell_at (cells_of self.now) path.now else None) }
+        ensures cell { result ≡
+            (if nat_lt 1 (length (cells_of self.now)) then cell_at (cells_of self.now) path.now else None) }
         ensures within { IfSome result (λ t. t < length (cells_of self.now)) }
     {
         self.nodes.cell_at(path)

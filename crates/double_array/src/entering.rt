@@ -86,8 +86,12 @@ impl Nodes {
         requires tip { grown.tip < length self.old.cells.items }
         requires base { grown.base < 2 ^ 31 }
         requires parents { Parented self.old.cells.items }
-        requires to { (k : ℕ) → k < length (child_codes (freed_up grown.new self.old.cells.items grown.tip) grown.node) → grown.base + slice_index (child_codes (freed_up grown.new self.old.cells.items grown.tip) grown.node) k < length self.old.cells.items }
-        ensures undone { record { cells = self.new.cells.items; index = self.new.index.items } ≡ undone self.old.cells.items self.old.index.items grown.node grown.base grown.new grown.tip }
+        requires to { (k : ℕ) → k < length (child_codes (freed_up grown.new self.old.cells.items grown.tip) grown.node) →
+            grown.base + slice_index
+            (child_codes (freed_up grown.new self.old.cells.items grown.tip) grown.node) k < length
+            self.old.cells.items }
+        ensures undone { record { cells = self.new.cells.items; index = self.new.index.items } ≡ undone self.old.cells.items
+            self.old.index.items grown.node grown.base grown.new grown.tip }
         ensures kept { SameBuffers self.old self.new }
     {
         self.free_up(grown.tip, grown.new);
@@ -106,7 +110,8 @@ impl Nodes {
         requires node { Open self.old.cells.items s codes.now }
         requires missing { child_of self.old.cells.items s (slice_index codes.now 0) ≡ None }
         requires within { s < length self.old.cells.items }
-        ensures cells { Extended self.old.cells.items self.old.index.items s codes.now (number - 1) result self.new.cells.items self.new.index.items }
+        ensures cells { Extended self.old.cells.items self.old.index.items s codes.now (number - 1) result
+            self.new.cells.items self.new.index.items }
         ensures kept { SameBuffers self.old self.new }
     {
         let before = self.base(s);
@@ -133,7 +138,8 @@ impl Nodes {
     // Enters the path with the number, or says why it is refused and changes nothing.
     pub(super) fn enter(&mut self, path: &[u16], number: u32) -> Result<(), PathFault>
         requires { Sound self.old.cells.items self.old.index.items }
-        ensures cells { EntersPath self.old.cells.items self.old.index.items path.now number result self.new.cells.items self.new.index.items }
+        ensures cells { EntersPath self.old.cells.items self.old.index.items path.now number result self.new.cells.items
+            self.new.index.items }
         ensures kept { SameBuffers self.old self.new }
     {
         if !is_path(path) {

@@ -47,7 +47,8 @@ pub fn label_of(code: u16) -> Option<u8>
 impl Nodes {
     // The cell that the path leads to from the root: none where there is no root.
     pub(super) fn cell_at(&self, path: &[u16]) -> Option<usize>
-        ensures cell { result ≡ (if nat_lt 1 (length self.now.cells.items) then cell_at self.now.cells.items path.now else None) }
+        ensures cell { result ≡
+            (if nat_lt 1 (length self.now.cells.items) then cell_at self.now.cells.items path.now else None) }
         ensures within { IfSome result (λ t. t < length self.now.cells.items) }
     {
         if self.cells.len() > 1 && all_codes(path) {
@@ -100,7 +101,8 @@ impl Nodes {
 
     // The leaf of the number, by the index.
     pub(super) fn leaf_of(&self, number: u32) -> Option<usize>
-        ensures { result ≡ (if is_known self.now.index.items number then Some (slice_index self.now.index.items (number - 1)) else None) }
+        ensures { result ≡
+            (if is_known self.now.index.items number then Some (slice_index self.now.index.items (number - 1)) else None) }
     {
         let entry = number.checked_sub(1)?;
         let t = *self.index.get(entry as usize)?;

@@ -93,7 +93,8 @@ impl Nodes {
     pub(super) fn move_family(&mut self, s: usize, codes: &[u16], new: usize)
         requires within { s < length self.old.cells.items }
         requires base { new < 2 ^ 31 }
-        requires from { (k : ℕ) → k < length codes.now → base_of self.old.cells.items s + slice_index codes.now k < length self.old.cells.items }
+        requires from { (k : ℕ) → k < length codes.now → base_of self.old.cells.items s + slice_index codes.now k < length
+            self.old.cells.items }
         requires to { (k : ℕ) → k < length codes.now → new + slice_index codes.now k < length self.old.cells.items }
         ensures cells { self.new.cells.items ≡ relocated self.old.cells.items s codes.now new }
         ensures leaves { self.new.index.items ≡ index_relocated self.old.cells.items self.old.index.items s codes.now new }
@@ -107,7 +108,8 @@ impl Nodes {
     // Gives `s` a child by the code, with the base, and says in which cell it stands, or that there is no place.
     pub(super) fn give_child(&mut self, s: usize, code: u16, base: i32) -> Option<usize>
         requires within { s < length self.old.cells.items }
-        ensures place { Given self.old.cells.items self.old.index.items s code base result self.new.cells.items self.new.index.items }
+        ensures place { Given self.old.cells.items self.old.index.items s code base result self.new.cells.items
+            self.new.index.items }
         ensures within { IfSome result (λ t. t < length self.new.cells.items) }
         ensures kept { SameBuffers self.old self.new }
     {

@@ -43,7 +43,8 @@ impl Nodes {
     // Takes the path out and says its number, or changes nothing where the path is not held.
     pub(super) fn take_out(&mut self, path: &[u16]) -> Option<u32>
         requires { 1 < length self.old.cells.items → Parented self.old.cells.items }
-        ensures cells { Taken self.old.cells.items self.old.index.items path.now result self.new.cells.items self.new.index.items }
+        ensures cells { Taken self.old.cells.items self.old.index.items path.now result self.new.cells.items
+            self.new.index.items }
         ensures kept { SameBuffers self.old self.new }
     {
         let t = self.cell_at(path)?;

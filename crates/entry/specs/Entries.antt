@@ -1,5 +1,5 @@
 -- What entering a word of symbols answers, and what it means for the numbers of all words.
-use Rattle.std.specs.Prelude.{◌≡◌, ℕ, ◌+◌, Bool, true, false, cond, ◌⊎◌, List, [], ◌∷◌, ◌++◌, length, take, IfOk, Some, None, Ok, Err, codes, decimal, sum_by, Option, Result, ◌==◌, slice_index}
+use Rattle.std.specs.Prelude.{◌≡◌, ℕ, ◌+◌, Bool, true, false, cond, ◌&&◌, ◌⊎◌, List, [], ◌∷◌, ◌++◌, length, take, IfOk, Some, None, Ok, Err, codes, decimal, sum_by, Option, Result, ◌==◌, slice_index}
 use Rattle.refusal.specs.declared.Side.TheVariants.{Neither}
 use Rattle.refusal.specs.declared.Refusal.{Refusal}
 use Rattle.refusal.specs.declared.Refusal.TheVariants.{WordLength, NoRoom}
@@ -7,6 +7,7 @@ use Rattle.std.specs.Result.{result_map_both}
 use Rattle.refusal.specs.declared.Report.{Report}
 use Rattle.refusal.specs.Reports.{report_of, report_text}
 use Rattle.script.specs.Words.{word_sized, spelled}
+use Rattle.lexicon.specs.Answers.{is_new}
 use Rattle.lexicon.specs.Rolls.{number_of, word_of, numbered}
 use Rattle.entry.specs.declared.WordEntry.{WordEntry}
 use Rattle.entry.specs.declared.WordEntry.TheVariants.{New, Held}
@@ -22,6 +23,10 @@ held_or_new None false count = Err (NoRoom Neither)
 abbrev pub entry_answer : {S : Type 0} → (S → List ℕ) → List (List ℕ) → Bool → List S → Result WordEntry Refusal
 entry_answer spelling roll room word =
     cond (word_sized word) (held_or_new (number_of roll (spelled spelling word)) room (length roll)) (Err (WordLength Neither))
+
+-- the word of symbols becomes the last of the roll: its length is right, the roll lacks it, and there is room
+abbrev pub is_new_word : {S : Type 0} → (S → List ℕ) → List (List ℕ) → Bool → List S → Bool
+is_new_word spelling roll room word = word_sized word && is_new roll room (spelled spelling word)
 
 -- the number in an entry
 abbrev pub number_in : WordEntry → ℕ

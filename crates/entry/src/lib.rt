@@ -6,10 +6,10 @@
 
 ghost use Rattle.std.specs.Prelude.{◌≡◌, ◌≤◌, ◌&&◌, Some};
 ghost use Rattle.std.specs.Option.{option_map};
-ghost use Rattle.lexicon.specs.Answers.{is_new, EnterLeaves};
+ghost use Rattle.lexicon.specs.Answers.{EnterLeaves};
 ghost use Rattle.lexicon.specs.Rolls.{Lawful};
-ghost use Rattle.script.specs.Words.{word_sized, spelled};
-ghost use Rattle.entry.specs.Entries.{entry_answer, KeepsNumbers, labels_at, labels_in, line_of, asked_of, reply_of, reply_text};
+ghost use Rattle.script.specs.Words.{spelled};
+ghost use Rattle.entry.specs.Entries.{entry_answer, is_new_word, KeepsNumbers, labels_at, labels_in, line_of, asked_of, reply_of, reply_text};
 
 use lexicon::{GrowingList, ReadableList};
 use refusal::{Refusal, Report};
@@ -27,9 +27,14 @@ pub enum WordEntry {
 // refused, then a new word for which the list has no room; the list is then as it was.
 // Whatever comes, no word that the list had gets another number.
 pub fn enter_word<S: Script, L: GrowingList>(list: &mut L, word: &[S]) -> Result<WordEntry, Refusal>
-    ensures answer { result ≡ entry_answer S.Script.spelling (L.ReadableList.roll list.old) (L.GrowingList.room list.old (spelled S.Script.spelling word.now)) word.now }
-    ensures after { EnterLeaves L.ReadableList.roll L.GrowingList.enters list.old (spelled S.Script.spelling word.now) list.new (word_sized word.now && is_new (L.ReadableList.roll list.old) (L.GrowingList.room list.old (spelled S.Script.spelling word.now)) (spelled S.Script.spelling word.now)) }
-    ensures numbers { KeepsNumbers S.Script.spelling (L.ReadableList.roll list.old) word.now (L.ReadableList.roll list.new) result }
+    ensures answer { result ≡ entry_answer S.Script.spelling (L.ReadableList.roll list.old)
+        (L.GrowingList.room list.old (spelled S.Script.spelling word.now)) word.now }
+    ensures after { EnterLeaves L.ReadableList.roll L.GrowingList.enters list.old (spelled S.Script.spelling word.now)
+        list.new
+        (is_new_word S.Script.spelling (L.ReadableList.roll list.old)
+        (L.GrowingList.room list.old (spelled S.Script.spelling word.now)) word.now) }
+    ensures numbers { KeepsNumbers S.Script.spelling (L.ReadableList.roll list.old) word.now (L.ReadableList.roll list.new)
+        result }
 {
     let labels = spell_word(word)?;
     let before = list.count();

@@ -60,7 +60,8 @@ pub trait GrowingList: ReadableList {
     // for which there is no room; unless a new word is entered, the list stays as it was.
     fn enter(&mut self, word: &[u8]) -> Result<u16, ListFault>
         ensures answer { result ≡ enter_answer (Self.roll self.old) (room self.old word.now) word.now }
-        ensures after { EnterLeaves Self.roll enters self.old word.now self.new (is_new (Self.roll self.old) (room self.old word.now) word.now) };
+        ensures after { EnterLeaves Self.roll enters self.old word.now self.new
+            (is_new (Self.roll self.old) (room self.old word.now) word.now) };
 }
 
 // The spelling has 1 to 128 labels.

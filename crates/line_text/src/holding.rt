@@ -19,7 +19,8 @@ impl LineRows {
     // rows then stay.
     pub fn push(&mut self, row: LineRow) -> Result<(), LineRow>
         ensures room { result ≡ (if nat_lt (length (rows_in self.old)) 100 then Ok tt else Err row) }
-        ensures after { rows_in self.new ≡ (if nat_lt (length (rows_in self.old)) 100 then rows_in self.old ++ row ∷ [] else rows_in self.old) }
+        ensures after { rows_in self.new ≡
+            (if nat_lt (length (rows_in self.old)) 100 then rows_in self.old ++ row ∷ [] else rows_in self.old) }
     {
         if self.count >= ROW_PLACES {
             return Err(row);

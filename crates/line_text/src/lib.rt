@@ -137,7 +137,8 @@ fn text_of(answer: &Result<LineAnswer, Refusal>) -> Text
 // that are; the rest stays. Where the output has fewer than 4,096 bytes it writes nothing.
 pub fn write_answer(answer: &Result<LineAnswer, Refusal>, out: &mut [u8]) -> Option<usize>
     ensures size { result ≡ (if nat_le 4096 (length out.old) then Some (length (answer_text answer.now)) else None) }
-    ensures after { out.new ≡ (if nat_le 4096 (length out.old) then written out.old 0 (answer_text answer.now) else out.old) }
+    ensures after { out.new ≡
+        (if nat_le 4096 (length out.old) then written out.old 0 (answer_text answer.now) else out.old) }
 {
     if out.len() < TEXT_BYTES {
         return None;

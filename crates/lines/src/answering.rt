@@ -29,7 +29,8 @@ fn done(
     records: &mut [Tally],
     request: GrowingRequest<'_, u8, Tally>,
 ) -> Result<LineAnswer, Refusal>
-    ensures { Done (state_of list.old table.old records.old) (growing_call_of request.entry) (answer_text result) (state_of list.new table.new records.new) }
+    ensures { Done (state_of list.old table.old records.old) (growing_call_of request.entry) (answer_text result)
+        (state_of list.new table.new records.new) }
 {
     let mut nowhere: [LinkRow; 0] = [];
     perform_growing(table, list, records, &mut nowhere, request)?;
@@ -60,7 +61,9 @@ fn found(
     records: &mut [Tally],
     words: WordTriple<'_, u8>,
 ) -> Result<LineAnswer, Refusal>
-    ensures { Carried (state_of list.old table.old records.old) (Some (find_asked words.entry.x.now words.entry.y.now words.entry.relation)) (answer_text result) (state_of list.new table.new records.new) }
+    ensures { Carried (state_of list.old table.old records.old)
+        (Some (find_asked words.entry.x.now words.entry.y.now words.entry.relation)) (answer_text result)
+        (state_of list.new table.new records.new) }
 {
     let mut nowhere: [LinkRow; 0] = [];
     let request = GrowingRequest::Other(Request::Find { words });
@@ -92,7 +95,8 @@ fn listed(
     x: &[u8],
     relation: u8,
 ) -> Result<LineAnswer, Refusal>
-    ensures { Carried (state_of list.old table.old records.old) (Some (list_asked x.now relation)) (answer_text result) (state_of list.new table.new records.new) }
+    ensures { Carried (state_of list.old table.old records.old) (Some (list_asked x.now relation))
+        (answer_text result) (state_of list.new table.new records.new) }
 {
     // Rows are written into an output that is lent: a rule of the project.
     let mut rows = [LinkRow::default(); ROW_PLACES];
@@ -108,7 +112,9 @@ fn shared(
     records: &[Tally],
     words: WordTriple<'_, u8>,
 ) -> Result<LineAnswer, Refusal>
-    ensures { Carried (state_of list.now table.now records.now) (Some (share_asked words.entry.x.now words.entry.y.now words.entry.relation)) (answer_text result) (state_of list.now table.now records.now) }
+    ensures { Carried (state_of list.now table.now records.now)
+        (Some (share_asked words.entry.x.now words.entry.y.now words.entry.relation)) (answer_text result)
+        (state_of list.now table.now records.now) }
 {
     share(table, list, records, words).map(LineAnswer::Share)
 }
@@ -120,7 +126,8 @@ pub(super) fn answer(
     records: &mut [Tally],
     command: Command<'_>,
 ) -> Result<LineAnswer, Refusal>
-    ensures { Carried (state_of list.old table.old records.old) (Some (seen command.entry)) (answer_text result) (state_of list.new table.new records.new) }
+    ensures { Carried (state_of list.old table.old records.old) (Some (seen command.entry)) (answer_text result)
+        (state_of list.new table.new records.new) }
 {
     match command {
         Command::Add { words, count } => {

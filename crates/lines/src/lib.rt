@@ -31,7 +31,8 @@ fn answer_line(
     records: &mut [Tally],
     line: &[u8],
 ) -> Result<LineAnswer, Refusal>
-    ensures { Carried (state_of list.old table.old records.old) (asked_by line.now) (answer_text result) (state_of list.new table.new records.new) }
+    ensures { Carried (state_of list.old table.old records.old) (asked_by line.now) (answer_text result)
+        (state_of list.new table.new records.new) }
 {
     let command = parse(line)?;
     answer(table, list, records, command)
@@ -47,8 +48,11 @@ pub fn perform_line(
     line: &[u8],
     out: &mut [u8],
 ) -> Result<usize, Refusal>
-    ensures short { length out.old < 4096 → (result ≡ Err OutputTooShort) × (out.new ≡ out.old) × (state_of list.new table.new records.new ≡ state_of list.old table.old records.old) }
-    ensures carried { 4096 ≤ length out.old → (text : List ℕ) × Carried (state_of list.old table.old records.old) (asked_by line.now) text (state_of list.new table.new records.new) × (result ≡ Ok (length text)) × (out.new ≡ written out.old 0 text) }
+    ensures short { length out.old < 4096 → (result ≡ Err OutputTooShort) × (out.new ≡ out.old) ×
+        (state_of list.new table.new records.new ≡ state_of list.old table.old records.old) }
+    ensures carried { 4096 ≤ length out.old → (text : List ℕ) × Carried (state_of list.old table.old records.old)
+        (asked_by line.now) text (state_of list.new table.new records.new) × (result ≡ Ok (length text)) ×
+        (out.new ≡ written out.old 0 text) }
     ensures within { IfOk result (λ n. n ≤ length out.old) }
 {
     if out.len() < TEXT_BYTES {

@@ -36,7 +36,8 @@ impl<'a> WordLinks<'a> {
     // and answers where they end.
     fn list_block(&self, relation: u8, upper: u8, out: &mut [LinkRow], at: usize) -> usize
         requires { at + 256 < 2 ^ 63 }
-        ensures { Placed out.old at (rows_from self.now.table.now self.now.x relation (256 * upper) 256) result out.new }
+        ensures { Placed out.old at (rows_from self.now.table.now self.now.x relation (256 * upper) 256) result
+            out.new }
     {
         let x = self.x;
         let mut next = at;

@@ -77,7 +77,8 @@ impl<L: ReadableList, U: GrowingList> ReadableList for Overlay<L, U> {
 
 impl<L: ReadableList, U: GrowingList> GrowingList for Overlay<L, U> {
     // A number is left, and the upper list has room.
-    ghost room = { λ v w. nat_lt (length (L.ReadableList.roll v.0) + length (U.ReadableList.roll v.1)) 65535 && U.GrowingList.room v.1 w };
+    ghost room = { λ v w. nat_lt (length (L.ReadableList.roll v.0) + length (U.ReadableList.roll v.1)) 65535
+        && U.GrowingList.room v.1 w };
 
     // The upper list holds what it holds after an entry of its own, and the lower list stays.
     ghost enters = { λ s w t. U.GrowingList.enters s.1 w t.1 × (t.0 ≡ s.0) };
@@ -98,7 +99,10 @@ impl<L: ReadableList, U: GrowingList> GrowingList for Overlay<L, U> {
 // What the list means to the two interfaces: the words of both lists, room where a number is left and the upper
 // list has room, and an entry into the upper list that leaves the lower as it is.
 pub fn meaning<L: ReadableList, U: GrowingList>()
-    ensures roll { (v : L × U) → ⟦<Overlay<L, U> as ReadableList>⟧.roll v ≡ L.ReadableList.roll v.0 ++ U.ReadableList.roll v.1 }
-    ensures room { (v : L × U) (w : List ℕ) → ⟦<Overlay<L, U> as GrowingList>⟧.room v w ≡ (nat_lt (length (L.ReadableList.roll v.0) + length (U.ReadableList.roll v.1)) 65535 && U.GrowingList.room v.1 w) }
-    ensures enters { (s t : L × U) (w : List ℕ) → ⟦<Overlay<L, U> as GrowingList>⟧.enters s w t ↔ (U.GrowingList.enters s.1 w t.1 × (t.0 ≡ s.0)) }
+    ensures roll { (v : L × U) → ⟦<Overlay<L, U> as ReadableList>⟧.roll v ≡ L.ReadableList.roll v.0 ++ U.ReadableList.roll
+        v.1 }
+    ensures room { (v : L × U) (w : List ℕ) → ⟦<Overlay<L, U> as GrowingList>⟧.room v w ≡
+        (nat_lt (length (L.ReadableList.roll v.0) + length (U.ReadableList.roll v.1)) 65535 && U.GrowingList.room v.1 w) }
+    ensures enters { (s t : L × U) (w : List ℕ) → ⟦<Overlay<L, U> as GrowingList>⟧.enters s w t ↔
+        (U.GrowingList.enters s.1 w t.1 × (t.0 ≡ s.0)) }
 {}

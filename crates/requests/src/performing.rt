@@ -24,7 +24,8 @@ fn make<'a, S: Script, L: ReadableList, R: Record>(
     out: &mut [LinkRow],
     request: Request<'a, S, R>,
 ) -> Result<Reply<R>, Refusal>
-    ensures { Steps (kit_of S.Script L.ReadableList R.Record) no_growth (state_of list.now table.old records.old) out.old (call_of request.entry) result (state_of list.now table.new records.new) out.new }
+    ensures { Steps (kit_of S.Script L.ReadableList R.Record) no_growth (state_of list.now table.old records.old)
+        out.old (call_of request.entry) result (state_of list.now table.new records.new) out.new }
 {
     // `?` and not `map`: the checker follows no case of the generic `Reply` as a function.
     match request {
@@ -53,8 +54,10 @@ pub fn perform<'a, S: Script, L: ReadableList, R: Record>(
     out: &mut [LinkRow],
     request: Request<'a, S, R>,
 ) -> Result<Reply<R>, Refusal>
-    ensures step { Steps (kit_of S.Script L.ReadableList R.Record) no_growth (state_of list.now table.old records.old) out.old (call_of request.entry) result (state_of list.now table.new records.new) out.new }
-    ensures law { Onward (kit_of S.Script L.ReadableList R.Record) (state_of list.now table.old records.old) (call_of request.entry) result (state_of list.now table.new records.new) }
+    ensures step { Steps (kit_of S.Script L.ReadableList R.Record) no_growth (state_of list.now table.old records.old)
+        out.old (call_of request.entry) result (state_of list.now table.new records.new) out.new }
+    ensures law { Onward (kit_of S.Script L.ReadableList R.Record) (state_of list.now table.old records.old)
+        (call_of request.entry) result (state_of list.now table.new records.new) }
 {
     make(table, list, records, out, request)
 }
@@ -67,7 +70,9 @@ fn make_growing<'a, S: Script, L: GrowingList, R: Record>(
     out: &mut [LinkRow],
     request: GrowingRequest<'a, S, R>,
 ) -> Result<Reply<R>, Refusal>
-    ensures { Steps (kit_of S.Script L.ReadableList R.Record) (growth_of L.GrowingList) (state_of list.old table.old records.old) out.old (growing_call_of request.entry) result (state_of list.new table.new records.new) out.new }
+    ensures { Steps (kit_of S.Script L.ReadableList R.Record) (growth_of L.GrowingList)
+        (state_of list.old table.old records.old) out.old (growing_call_of request.entry) result
+        (state_of list.new table.new records.new) out.new }
 {
     match request {
         GrowingRequest::Add { words, record } => {
@@ -85,8 +90,11 @@ pub fn perform_growing<'a, S: Script, L: GrowingList, R: Record>(
     out: &mut [LinkRow],
     request: GrowingRequest<'a, S, R>,
 ) -> Result<Reply<R>, Refusal>
-    ensures step { Steps (kit_of S.Script L.ReadableList R.Record) (growth_of L.GrowingList) (state_of list.old table.old records.old) out.old (growing_call_of request.entry) result (state_of list.new table.new records.new) out.new }
-    ensures law { Onward (kit_of S.Script L.ReadableList R.Record) (state_of list.old table.old records.old) (growing_call_of request.entry) result (state_of list.new table.new records.new) }
+    ensures step { Steps (kit_of S.Script L.ReadableList R.Record) (growth_of L.GrowingList)
+        (state_of list.old table.old records.old) out.old (growing_call_of request.entry) result
+        (state_of list.new table.new records.new) out.new }
+    ensures law { Onward (kit_of S.Script L.ReadableList R.Record) (state_of list.old table.old records.old)
+        (growing_call_of request.entry) result (state_of list.new table.new records.new) }
 {
     make_growing(table, list, records, out, request)
 }

@@ -35,10 +35,13 @@ pub fn share<S: Script, L: ReadableList>(
     records: &[Tally],
     words: WordTriple<'_, S>,
 ) -> Result<u32, Refusal>
-    ensures answer { result ≡ share_answer table.now records.now words.entry.relation (link_answer (word_kit S.Script L.ReadableList) list.now table.now words.entry.x.now words.entry.y.now words.entry.relation) }
+    ensures answer { result ≡ share_answer table.now records.now words.entry.relation
+        (link_answer (word_kit S.Script L.ReadableList) list.now table.now words.entry.x.now words.entry.y.now
+        words.entry.relation) }
     ensures most { IfOk result (λ n. n ≤ 1000000) }
     ensures nearest { Nearest }
-    ensures law { ShareLaw (tally_kit S.Script L.ReadableList) (state_of list.now table.now records.now) words.entry.x.now words.entry.y.now words.entry.relation result }
+    ensures law { ShareLaw (tally_kit S.Script L.ReadableList) (state_of list.now table.now records.now) words.entry.x.now
+        words.entry.y.now words.entry.relation result }
 {
     let link = table.link_of(list, words)?;
     let count = count_at(records, link.number);

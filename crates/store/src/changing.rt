@@ -28,7 +28,9 @@ impl RelationTable {
         words: WordTriple<'_, S>,
         record: R,
     ) -> Result<Link, Refusal>
-        ensures { Adds (kit_of S.Script L.ReadableList R.Record) (growth_of L.GrowingList) (state_of list.old self.old records.old) words.entry.x.now words.entry.y.now words.entry.relation «record» result (state_of list.new self.new records.new) }
+        ensures { Adds (kit_of S.Script L.ReadableList R.Record) (growth_of L.GrowingList)
+            (state_of list.old self.old records.old) words.entry.x.now words.entry.y.now
+            words.entry.relation «record» result (state_of list.new self.new records.new) }
     {
         let pair = admit(words, &record)?;
         let x = enter(list, &pair.x, Side::First)?;
@@ -47,7 +49,9 @@ impl RelationTable {
         words: WordTriple<'_, S>,
         record: R,
     ) -> Result<Link, Refusal>
-        ensures { Ties (kit_of S.Script L.ReadableList R.Record) (state_of list.now self.old records.old) words.entry.x.now words.entry.y.now words.entry.relation «record» result (state_of list.now self.new records.new) }
+        ensures { Ties (kit_of S.Script L.ReadableList R.Record) (state_of list.now self.old records.old)
+            words.entry.x.now words.entry.y.now words.entry.relation «record» result
+            (state_of list.now self.new records.new) }
     {
         let pair = admit(words, &record)?;
         let triple = known_triple(list, &pair, words.relation)?;
@@ -62,7 +66,8 @@ impl RelationTable {
         list: &L,
         words: WordTriple<'_, S>,
     ) -> Result<u32, Refusal>
-        ensures { Deletes (word_kit S.Script L.ReadableList) list.now self.old words.entry.x.now words.entry.y.now words.entry.relation result self.new }
+        ensures { Deletes (word_kit S.Script L.ReadableList) list.now self.old words.entry.x.now words.entry.y.now
+            words.entry.relation result self.new }
     {
         let pair = spell_pair(words)?;
         let triple = known_triple(list, &pair, words.relation)?;

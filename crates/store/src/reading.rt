@@ -32,7 +32,8 @@ impl RelationTable {
         list: &L,
         words: WordTriple<'_, S>,
     ) -> Result<Option<Link>, Refusal>
-        ensures { result ≡ find_of (word_kit S.Script L.ReadableList) list.now self.now words.entry.x.now words.entry.y.now words.entry.relation }
+        ensures { result ≡ find_of (word_kit S.Script L.ReadableList) list.now self.now words.entry.x.now
+            words.entry.y.now words.entry.relation }
     {
         let pair = spell_pair(words)?;
         // By `let else`, here and below: none is the answer then and no refusal, which `?` cannot say.
@@ -55,7 +56,8 @@ impl RelationTable {
         list: &L,
         words: WordTriple<'_, S>,
     ) -> Result<Link, Refusal>
-        ensures { result ≡ link_answer (word_kit S.Script L.ReadableList) list.now self.now words.entry.x.now words.entry.y.now words.entry.relation }
+        ensures { result ≡ link_answer (word_kit S.Script L.ReadableList) list.now self.now words.entry.x.now
+            words.entry.y.now words.entry.relation }
     {
         let pair = spell_pair(words)?;
         let triple = known_triple(list, &pair, words.relation)?;

@@ -59,7 +59,8 @@ pub(super) fn admit<S: Script, R: Record>(
     words: WordTriple<'_, S>,
     record: &R,
 ) -> Result<WordPair, Refusal>
-    ensures { Admitted S.Script.spelling words.entry.x.now words.entry.y.now words.entry.relation (R.Record.sound «record».now) result }
+    ensures { Admitted S.Script.spelling words.entry.x.now words.entry.y.now words.entry.relation
+        (R.Record.sound «record».now) result }
 {
     let pair = spell_pair(words)?;
     if !record.is_sound() {
@@ -81,7 +82,8 @@ pub(super) fn known_triple<L: ReadableList>(
     pair: &WordPair,
     relation: u8,
 ) -> Result<Triple, Refusal>
-    ensures { KnownTriple (number_of (L.ReadableList.roll list.now) (labels_in pair.now.x)) (number_of (L.ReadableList.roll list.now) (labels_in pair.now.y)) relation result }
+    ensures { KnownTriple (number_of (L.ReadableList.roll list.now) (labels_in pair.now.x))
+        (number_of (L.ReadableList.roll list.now) (labels_in pair.now.y)) relation result }
 {
     let x = number_in(list, &pair.x).ok_or(Refusal::UnknownWord(Side::First))?;
     let y = number_in(list, &pair.y).ok_or(Refusal::UnknownWord(Side::Second))?;
@@ -90,7 +92,8 @@ pub(super) fn known_triple<L: ReadableList>(
 
 // Enters the spelled word on a side and answers its number. A new word without room is refused.
 pub(super) fn enter<L: GrowingList>(list: &mut L, word: &Labels, side: Side) -> Result<u16, Refusal>
-    ensures { EnteredWord L.ReadableList.roll (growth_of L.GrowingList) list.old (labels_in word.now) side result list.new }
+    ensures { EnteredWord L.ReadableList.roll (growth_of L.GrowingList) list.old (labels_in word.now) side result
+        list.new }
 {
     list.enter(word.as_slice())
         .map_err(|fault| Refusal::of_list(fault, side))

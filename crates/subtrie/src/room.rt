@@ -25,7 +25,8 @@ pub(super) fn room_below(array: &DoubleArray, s: usize, left: usize, room: usize
 // The same for the edges of `s`, with at most `left` codes past each.
 #[cycle(room_below_room_edges)]
 fn room_edges(array: &DoubleArray, s: usize, left: usize, room: usize) -> Option<usize>
-    ensures { result ≡ room_after room (edge_numbers (numbers_below left (cells_of array.now)) (cells_of array.now) s 257) }
+    ensures { result ≡ room_after room
+        (edge_numbers (numbers_below left (cells_of array.now)) (cells_of array.now) s 257) }
 {
     let mut rest = room;
     for code in 1..258 {

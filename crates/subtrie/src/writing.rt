@@ -37,9 +37,11 @@ pub(super) fn write_below(
 // The same for the edges of `s`, with at most `left` codes past each.
 #[cycle(write_below_write_edges)]
 fn write_edges(array: &DoubleArray, s: usize, left: usize, out: &mut [u32], at: usize) -> usize
-    requires { at + length (edge_numbers (numbers_below left (cells_of array.now)) (cells_of array.now) s 257) ≤ length out.old }
+    requires { at + length (edge_numbers (numbers_below left (cells_of array.now)) (cells_of array.now) s 257) ≤ length
+        out.old }
     ensures end { result ≡ at + length (edge_numbers (numbers_below left (cells_of array.now)) (cells_of array.now) s 257) }
-    ensures after { out.new ≡ written out.old at (edge_numbers (numbers_below left (cells_of array.now)) (cells_of array.now) s 257) }
+    ensures after { out.new ≡ written out.old at
+        (edge_numbers (numbers_below left (cells_of array.now)) (cells_of array.now) s 257) }
 {
     let mut next = at;
     for code in 1..258 {

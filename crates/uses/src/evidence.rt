@@ -24,7 +24,9 @@ pub fn evidence_of<S: Script, L: GrowingList, R: Record>(
     evidence: R,
     other: WordTriple<'_, S>,
 ) -> Result<Reading<R>, Refusal>
-    ensures { IfOk result (IsOwnReading (kit_of S.Script L.ReadableList R.Record) list.new pair.entry.x.now pair.entry.y.now pair.entry.relation evidence) }
+    ensures { IfOk result
+        (IsOwnReading (kit_of S.Script L.ReadableList R.Record) list.new pair.entry.x.now pair.entry.y.now
+        pair.entry.relation evidence) }
 {
     let mut table = RelationTable::new::<S, L, R>(list, records, cells, index);
     let link = table.add(list, records, pair, evidence)?;

@@ -25,8 +25,10 @@ pub fn new_overlaid<S: Script, L: ReadableList, U: GrowingList, R: Record>(
     index: Vec<u32>,
 ) -> RelationTable
     ensures made { IsNewTable (vec_len cells) (vec_len index) (length records.now) result }
-    ensures start { Reached (kit_of S.Script ⟦<Overlay<L, U> as ReadableList>⟧ R.Record) [] (state_of list.now result records.now) }
-    ensures law { Law (kit_of S.Script ⟦<Overlay<L, U> as ReadableList>⟧ R.Record) [] (state_of list.now result records.now) }
+    ensures start { Reached (kit_of S.Script ⟦<Overlay<L, U> as ReadableList>⟧ R.Record) []
+        (state_of list.now result records.now) }
+    ensures law { Law (kit_of S.Script ⟦<Overlay<L, U> as ReadableList>⟧ R.Record) []
+        (state_of list.now result records.now) }
 {
     RelationTable::new::<S, Overlay<L, U>, R>(list, records, cells, index)
 }
@@ -39,7 +41,9 @@ pub fn perform_overlaid<'a, S: Script, L: ReadableList, U: GrowingList, R: Recor
     out: &mut [LinkRow],
     request: GrowingRequest<'a, S, R>,
 ) -> Result<Reply<R>, Refusal>
-    ensures { Onward (kit_of S.Script ⟦<Overlay<L, U> as ReadableList>⟧ R.Record) (state_of list.old table.old records.old) (growing_call_of request.entry) result (state_of list.new table.new records.new) }
+    ensures { Onward (kit_of S.Script ⟦<Overlay<L, U> as ReadableList>⟧ R.Record)
+        (state_of list.old table.old records.old) (growing_call_of request.entry) result
+        (state_of list.new table.new records.new) }
 {
     perform_growing(table, list, records, out, request)
 }
