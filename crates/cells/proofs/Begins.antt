@@ -1,7 +1,8 @@
 -- Beginnings of held paths.
 use Rattle.std.proofs.Common.{◌≡◌, ℕ, List, [], ◌++◌}
 use Rattle.cells.specs.declared.Cell.{Cell}
-use Rattle.cells.specs.Trees.{In, Apart, Held}
+use Rattle.members.specs.Lists.{In, Apart}
+use Rattle.cells.specs.Trees.{Held}
 
 -- a held path begins with p; both have their last code first
 abbrev pub Begins : List Cell → List ℕ → Type 0

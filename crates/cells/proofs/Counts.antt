@@ -6,12 +6,13 @@ use Rattle.std.proofs.lemmas.List.FromFn.{length-range_with_len}
 use Rattle.std.proofs.lemmas.Bool.{cases_lt, ltb-true, lt-ltb}
 use Rattle.cells.specs.declared.Cell.{Cell}
 use Rattle.cells.specs.Cells.{free_cell, nat, parent}
-use Rattle.cells.specs.Trees.{Edge, Reach, In, Apart, Held}
+use Rattle.members.specs.Lists.{In, Apart}
+use Rattle.cells.specs.Trees.{Edge, Reach, Held}
 use Rattle.cells.proofs.Trees.{Tree, Whole}
 use Rattle.cells.proofs.Begins.{Begins, Beginnings}
 use Rattle.cells.specs.Counting.{used}
 use Rattle.cells.proofs.Paths.{reach_some, reach_same, root_apart, reach_unique, reach_used}
-use Rattle.cells.proofs.Pigeons.{pigeons, in_counting, apart_counting, in_kept, from_kept, apart_kept}
+use Rattle.members.proofs.Pigeons.{pigeons, in_counting, apart_counting, in_kept, from_kept, apart_kept}
 
 pub within : (cs : List Cell) (t : ℕ) → 0 < parent cs t → t < length cs
 within cs t h = ⊎_elim (λ lt. lt) (λ ge. absurd (omega (arith, ap (λ c. nat c.check) (get_or_past cs t free_cell ge)))) (cases_lt t (length cs))

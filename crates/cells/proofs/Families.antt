@@ -6,7 +6,7 @@ use Rattle.cells.specs.Cells.{nat, base_of, parent, child, codes_below, some_cod
 use Rattle.cells.specs.Placing.{AllFree}
 use Rattle.cells.specs.Trees.{Edge, Room}
 use Rattle.cells.proofs.Trees.{Tree, Lone, Family}
-use Rattle.cells.proofs.Members.{in_at, at_in}
+use Rattle.members.proofs.Members.{in_at, at_in}
 use Rattle.cells.proofs.Paths.{edge_up, reach_some}
 use Rattle.cells.proofs.Counts.{within}
 

@@ -6,7 +6,8 @@ use Rattle.cells.specs.declared.Cell.{Cell}
 use Rattle.cells.specs.Cells.{at, nat, base_of, parent, is_free, child_codes, some_code}
 use Rattle.cells.specs.Placing.{lowest, Lowest, relocated, index_relocated, placed, Spot, placed_at, place, then_place, grow}
 use Rattle.cells.specs.Walking.{turned}
-use Rattle.cells.specs.Trees.{In, Edge, Reach, Held, Room}
+use Rattle.members.specs.Lists.{In}
+use Rattle.cells.specs.Trees.{Edge, Reach, Held, Room}
 use Rattle.cells.proofs.Trees.{Tree, Lone, NotLeaf, WholeBut, Family}
 use Rattle.cells.proofs.Changes.{Placed}
 pub use Rattle.cells.proofs.Basics.{no_some, some_same}
@@ -14,7 +15,7 @@ use Rattle.cells.proofs.Basics.{not_leaf}
 use Rattle.cells.proofs.Lowests.{decides_free, lowest_holds}
 use Rattle.cells.proofs.Paths.{reach_some, reach_same, reach_used}
 use Rattle.cells.proofs.Walks.{Codes, listing}
-use Rattle.cells.proofs.Members.{in_front, in_rest}
+use Rattle.members.proofs.Members.{in_front, in_rest}
 use Rattle.cells.proofs.Relocations.{moves_well}
 use Rattle.cells.proofs.Returns.{held_again}
 use Rattle.cells.proofs.Places.{taking, placing, free_m, long_m, m}

@@ -5,12 +5,12 @@ use Rattle.cells.specs.declared.Cell.{Cell}
 use Rattle.cells.specs.Cells.{at, is_leaf, number, parent}
 use Rattle.cells.specs.Walking.{onward, number_at, turned, path_to}
 use Rattle.cells.specs.Counting.{used, held_paths}
-use Rattle.cells.specs.Trees.{In}
+use Rattle.members.specs.Lists.{In}
 use Rattle.cells.specs.Invariant.{Sound}
 use Rattle.cells.specs.Laws.{Holds}
 use Rattle.cells.proofs.Basics.{some_is}
-use Rattle.cells.proofs.Members.{in_map, map_in}
-use Rattle.cells.proofs.Pigeons.{in_kept, from_kept}
+use Rattle.members.proofs.Members.{in_map, map_in}
+use Rattle.members.proofs.Pigeons.{in_kept, from_kept}
 use Rattle.cells.proofs.Paths.{reach_some}
 use Rattle.cells.proofs.Counts.{within, in_used, used_in}
 use Rattle.cells.proofs.Climbs.{turned_back, number_held, number_positive, path_is}

@@ -5,7 +5,7 @@ use Rattle.cells.specs.declared.Cell.{Cell}
 use Rattle.cells.specs.Cells.{nat, parent}
 use Rattle.cells.specs.Placing.{Free}
 use Rattle.cells.specs.Counting.{used}
-use Rattle.cells.specs.Trees.{In}
+use Rattle.members.specs.Lists.{In}
 use Rattle.cells.specs.Invariant.{Sound}
 use Rattle.cells.specs.Laws.{Uses}
 use Rattle.cells.proofs.Counts.{within, in_used, used_in, apart_used}

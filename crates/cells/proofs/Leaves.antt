@@ -6,7 +6,8 @@ use Rattle.std.proofs.lemmas.Bool.{cases_eq, cases_lt, cond_both, cond-false, lt
 use Rattle.cells.specs.declared.Cell.{Cell}
 use Rattle.cells.specs.Cells.{free_cell, at, base_of, parent, entry}
 use Rattle.cells.specs.Placing.{moved_list, moves, reindexed, index_moves, relocated, index_relocated}
-use Rattle.cells.specs.Trees.{In, Apart, Room}
+use Rattle.members.specs.Lists.{In, Apart}
+use Rattle.cells.specs.Trees.{Room}
 use Rattle.cells.specs.Index.{Leads, Entered}
 use Rattle.cells.proofs.Trees.{Tree, NotLeaf, Family}
 use Rattle.cells.proofs.Changes.{Renames}

@@ -1,10 +1,8 @@
 pub mod Basics
 pub mod Trees
-pub mod Members
 pub mod Changes
 pub mod Paths
 pub mod Renamings
-pub mod Pigeons
 pub mod Begins
 pub mod Counts
 pub mod Relocations

@@ -4,7 +4,8 @@ use Rattle.std.proofs.lemmas.List.{set-set, set-get_or}
 use Rattle.std.proofs.lemmas.Bool.{cases_eq}
 use Rattle.cells.specs.declared.Cell.{Cell}
 use Rattle.cells.specs.Cells.{free_cell, at, nat, base_of, parent}
-use Rattle.cells.specs.Trees.{Edge, Reach, In, Held, Room}
+use Rattle.members.specs.Lists.{In}
+use Rattle.cells.specs.Trees.{Edge, Reach, Held, Room}
 use Rattle.cells.proofs.Trees.{Tree, WholeBut, Family, Lone, NotLeaf}
 use Rattle.cells.proofs.Changes.{Shifts, Grown, Shrunk, Placed, Freed}
 use Rattle.cells.specs.Placing.{relocated, placed}

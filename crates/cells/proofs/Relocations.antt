@@ -6,7 +6,8 @@ use Rattle.std.proofs.lemmas.List.{get_or_past, get_or-set_same, get_or-set_othe
 use Rattle.std.proofs.lemmas.Bool.{cases_eq, cases_lt, cond-true, cond-false, cond_both, and_from, and_right, eq-eqb, ne_eqb, lt-ltb}
 use Rattle.cells.specs.declared.Cell.{Cell}
 use Rattle.cells.specs.Cells.{free_cell, at, nat, base_of, parent, same_int}
-use Rattle.cells.specs.Trees.{Edge, Reach, In, Apart, Room}
+use Rattle.members.specs.Lists.{In, Apart}
+use Rattle.cells.specs.Trees.{Edge, Reach, Room}
 use Rattle.cells.proofs.Trees.{Tree, Family}
 use Rattle.cells.proofs.Changes.{Renames, Rebased, Shifts, Moved}
 use Rattle.cells.specs.Placing.{under, repointed, moved, moved_list, moves, relocated}

@@ -5,12 +5,13 @@ use Rattle.std.proofs.lemmas.Bool.Decides.{Decides-or, not_from_Decides}
 use Rattle.std.proofs.lemmas.Bool.{cond_both, false≢true}
 use Rattle.cells.specs.declared.Cell.{Cell}
 use Rattle.cells.specs.Walking.{number_at, turned}
-use Rattle.cells.specs.Trees.{In, Apart, Held}
+use Rattle.members.specs.Lists.{In, Apart}
+use Rattle.cells.specs.Trees.{Held}
 use Rattle.cells.specs.Counting.{in_use, has, add, add_beginnings, beginnings}
 use Rattle.cells.specs.Invariant.{Sound}
 use Rattle.cells.specs.Laws.{Holds, BeginningsOf}
 use Rattle.cells.proofs.Basics.{some_is}
-use Rattle.cells.proofs.Members.{in_map, map_in}
+use Rattle.members.proofs.Members.{in_map, map_in}
 use Rattle.cells.proofs.Begins.{Beginnings}
 use Rattle.cells.proofs.Counts.{counts}
 use Rattle.cells.proofs.Climbs.{turned_back, number_held, held_number, number_positive}

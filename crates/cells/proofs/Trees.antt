@@ -2,7 +2,8 @@
 use Rattle.std.proofs.Common.{◌≡◌, ℕ, ◌+◌, ◌<◌, ◌⊎◌, List, pos, negsuc, ◌≢◌}
 use Rattle.cells.specs.declared.Cell.{Cell}
 use Rattle.cells.specs.Cells.{free_cell, at, base_of, parent}
-use Rattle.cells.specs.Trees.{In, Apart, Edge, Reach}
+use Rattle.members.specs.Lists.{In, Apart}
+use Rattle.cells.specs.Trees.{Edge, Reach}
 
 -- each cell is free or lies on a path from the root
 pub record Tree (cs : List Cell) : Type 0 where

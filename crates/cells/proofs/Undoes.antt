@@ -5,7 +5,8 @@ use Rattle.std.proofs.lemmas.Bool.{cond-true, cond-false, eq-eqb, ne_eqb, cases_
 use Rattle.cells.specs.declared.Cell.{Cell}
 use Rattle.cells.specs.Cells.{free_cell, at, nat, base_of, parent, child, child_codes}
 use Rattle.cells.specs.Placing.{relocated, index_relocated, placed, Spot, place, grow, freed_up, moved_back, undo}
-use Rattle.cells.specs.Trees.{In, Edge, Reach, Room}
+use Rattle.members.specs.Lists.{In}
+use Rattle.cells.specs.Trees.{Edge, Reach, Room}
 use Rattle.cells.specs.Invariant.{Sound}
 use Rattle.cells.specs.Laws.{Open, Stays}
 use Rattle.cells.proofs.Trees.{Tree, Lone, NotLeaf, Family}

@@ -4,12 +4,13 @@ use lib.Signed.{lt_z}
 use Rattle.std.proofs.lemmas.Bool.{cases_eq, cond-true, cond_both, and_parts, and_from, lt-ltb, ltb-true, eqb-true, both_ways}
 use Rattle.cells.specs.declared.Cell.{Cell}
 use Rattle.cells.specs.Cells.{at, nat, base_of, parent, same_int, edge, child, codes_below}
-use Rattle.cells.specs.Trees.{Edge, Reach, In, Apart}
+use Rattle.members.specs.Lists.{In, Apart}
+use Rattle.cells.specs.Trees.{Edge, Reach}
 use Rattle.cells.specs.Walking.{onward, walk, turned}
 use Rattle.cells.proofs.Trees.{Family}
 use Rattle.cells.proofs.Basics.{no_some, some_is}
 use Rattle.cells.proofs.Paths.{edge_up, reach_some, reach_same}
-use Rattle.cells.proofs.Members.{in_append, in_front, in_rest}
+use Rattle.members.proofs.Members.{in_append, in_front, in_rest}
 use Rattle.cells.proofs.Counts.{within}
 use Rattle.cells.proofs.Relocations.{positive, same_int_yes}
 

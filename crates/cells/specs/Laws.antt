@@ -5,7 +5,8 @@ use Rattle.cells.specs.Cells.{free_cell, root_cell, at, base_of, parent, is_leaf
 use Rattle.cells.specs.Placing.{Free, Lowest, lowest, relocated, index_relocated, Arrays, Spot, place, grow, enter, undo}
 use Rattle.cells.specs.Walking.{cell_at, number_at, turned, path_to}
 use Rattle.cells.specs.Pruning.{take_out}
-use Rattle.cells.specs.Trees.{In, Apart, Reach, Held, Room}
+use Rattle.members.specs.Lists.{In, Apart}
+use Rattle.cells.specs.Trees.{Reach, Held, Room}
 use Rattle.cells.specs.Counting.{used, in_use, held_paths, same_path, beginnings}
 use Rattle.cells.specs.Invariant.{Sound}
 

@@ -1,17 +1,8 @@
 -- What an array of cells says as a tree.
-use Rattle.std.specs.Prelude.{◌≡◌, ℕ, ◌+◌, ◌<◌, ◌⊎◌, List, [], ◌∷◌, length, pos, negsuc}
+use Rattle.std.specs.Prelude.{◌≡◌, ℕ, ◌+◌, ◌<◌, List, [], ◌∷◌, length, pos, negsuc}
+use Rattle.members.specs.Lists.{In}
 use Rattle.cells.specs.declared.Cell.{Cell}
 use Rattle.cells.specs.Cells.{at, base_of, parent}
-
--- x is one of xs
-abbrev pub In : {X : Type 0} → List X → X → Type 0
-In [] x = ⊥
-In (y ∷ ys) x = (x ≡ y) ⊎ In ys x
-
--- no two of them are equal
-abbrev pub Apart : {X : Type 0} → List X → Type 0
-Apart [] = Unit {0}
-Apart (x ∷ xs) = (In xs x → ⊥) × Apart xs
 
 -- t is the child of s by the code a
 pub record Edge (cs : List Cell) (s a t : ℕ) : Type 0 where

@@ -5,7 +5,8 @@ use Rattle.std.proofs.lemmas.Bool.{cases_eq, cond-true, eq-eqb, and_parts, and_f
 use Rattle.cells.specs.declared.Cell.{Cell}
 use Rattle.cells.specs.Cells.{at, base_of, parent, child, child_codes, is_code, all_codes}
 use Rattle.cells.specs.Placing.{Spot, place, then_place, grow, freed_up, relocated, undo}
-use Rattle.cells.specs.Trees.{In, Reach}
+use Rattle.members.specs.Lists.{In}
+use Rattle.cells.specs.Trees.{Reach}
 use Rattle.cells.specs.Invariant.{Sound}
 use Rattle.cells.specs.Laws.{Open}
 use Rattle.cells.proofs.Trees.{Tree, NotLeaf, Family}
@@ -14,7 +15,7 @@ use Rattle.cells.proofs.Counts.{within}
 use Rattle.cells.proofs.Renamings.{up_used}
 use Rattle.cells.proofs.Climbs.{codes_from}
 use Rattle.cells.proofs.Walks.{listing}
-use Rattle.cells.proofs.Members.{in_at}
+use Rattle.members.proofs.Members.{in_at}
 use Rattle.cells.proofs.Returns.{family_after}
 use Rattle.cells.proofs.Sounds.{Tidy, tidy_of, reach_of, inner_is, inner_base}
 use Rattle.cells.proofs.Grows.{Here, There, some_same, then_some, grow_well}

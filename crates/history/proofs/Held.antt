@@ -5,9 +5,9 @@ use Rattle.std.specs.List.{slice_get}
 use Rattle.std.proofs.lemmas.Slice.Eq.{bytes_eq-Decides}
 use Rattle.std.proofs.lemmas.List.{length-map, length-set}
 use Rattle.std.proofs.lemmas.Bool.{cases_eq, cases_Bool, both_ways, eqb-true, eqb-false, eq-eqb, and_parts, and_from, not-true, not_from_false, cond_both}
-use Rattle.cells.specs.Trees.{In, Apart}
+use Rattle.members.specs.Lists.{In, Apart}
 use Rattle.cells.proofs.Basics.{no_some, some_same, some_is}
-use Rattle.cells.proofs.Pigeons.{in_kept, from_kept, apart_kept}
+use Rattle.members.proofs.Pigeons.{in_kept, from_kept, apart_kept}
 use Rattle.lexicon.specs.Rolls.{number_of, Lawful}
 use Rattle.lexicon.proofs.Numbers.{number_some}
 use Rattle.link_table.specs.Tables.{found, coded, limit, numbers, IsNewTable, Put, Out}
@@ -17,8 +17,8 @@ use Rattle.link_table.proofs.Tables.{lawful}
 use Rattle.history.specs.Kits.{Kit, labels_of, number_in, triple_in}
 use Rattle.history.specs.Refusals.{first, word_refusals}
 use Rattle.history.specs.Runs.{PresentTriple, present_triple, same_word, same_triple, rewritten}
-use Rattle.cells.proofs.Members.{in_map, map_in}
-use Rattle.history.proofs.Members.{same_from, as_long, kept_map, nth_set, nth_set_other}
+use Rattle.members.proofs.Members.{in_map, map_in}
+use Rattle.members.proofs.Filters.{same_from, as_long, kept_map, nth_set, nth_set_other}
 use Rattle.history.proofs.Options.{same_test, some_from}
 
 -- the triple of an entry

@@ -1,4 +1,3 @@
-pub mod Members
 pub mod Options
 pub mod Held
 pub mod Steps

@@ -2,9 +2,9 @@
 use Rattle.std.proofs.Common.{◌≡◌, ℕ, zero, suc, Bool, true, ◌&&◌, List, [], ◌∷◌, length, Some, sum_by, Option, unwrap_or, sym, refl, ap, ◌∙◌, subst, ⊎_elim, le_of_eq, le_antisymm, arith}
 use Rattle.std.proofs.lemmas.Slice.Eq.{bytes_eq-Decides}
 use Rattle.std.proofs.lemmas.Bool.{eqb-true, eqb-false, eq-eqb, and_parts, and_from}
-use Rattle.cells.specs.Trees.{In, Apart}
+use Rattle.members.specs.Lists.{In, Apart}
 use Rattle.cells.proofs.Basics.{some_same}
-use Rattle.cells.proofs.Pigeons.{sums_under, ones, in_kept, from_kept, apart_kept}
+use Rattle.members.proofs.Pigeons.{sums_under, ones, in_kept, from_kept, apart_kept}
 use Rattle.lexicon.specs.Rolls.{number_of}
 use Rattle.link_table.specs.Tables.{found, coded}
 use Rattle.link_table.specs.declared.table.LinkTable.{LinkTable}
@@ -18,7 +18,7 @@ use Rattle.history.specs.Kits.{Kit, state_of, labels_of, number_in}
 use Rattle.history.specs.Refusals.{word_refusals}
 use Rattle.history.specs.Runs.{PresentTriple, same_word}
 use Rattle.history.specs.Laws.{asks, entries_of, Listing}
-use Rattle.history.proofs.Members.{apart_from}
+use Rattle.members.proofs.Filters.{apart_from}
 use Rattle.history.proofs.Options.{none_applies}
 use Rattle.history.proofs.Held.{link_of, Fits, triple_known, same_words, same_link}
 

@@ -7,7 +7,7 @@ use Rattle.refusal.specs.declared.Refusal.TheVariants.{UnknownLink}
 use Rattle.cells.specs.Cells.{path_of_labels}
 use Rattle.cells.specs.Counting.{in_use, beginnings}
 use Rattle.cells.specs.Laws.{Holds}
-use Rattle.cells.specs.Trees.{In}
+use Rattle.members.specs.Lists.{In}
 use Rattle.cells.specs.Walking.{number_at}
 use Rattle.cells.proofs.Basics.{some_is, some_same}
 use Rattle.cells.proofs.Tallies.{counting}
@@ -23,8 +23,8 @@ use Rattle.history.specs.Refusals.{first, word_refusals, sought_refusals, link_r
 use Rattle.history.specs.Calls.{LinkMade, held_in, place_in, lacks, refusal_of_tie, refusal_of_add, refusal_of_sought, refusal_of_change, refusal_of_list, answered, link_by, read_by, read_of, rows_in}
 use Rattle.history.specs.Runs.{History, PresentTriple, same_triple, Reached}
 use Rattle.history.specs.Laws.{Unless, has_triple, has_link, entries_of, code_in, Answers, Next, Law}
-use Rattle.cells.proofs.Members.{in_map, map_in}
-use Rattle.history.proofs.Members.{open_from, some_passes, passes_from, from_passes}
+use Rattle.members.proofs.Members.{in_map, map_in}
+use Rattle.members.proofs.Filters.{open_from, some_passes, passes_from, from_passes}
 use Rattle.history.proofs.Options.{same_test, unless_answered, unless_decided}
 use Rattle.history.proofs.Beginnings.{as_many_beginnings}
 use Rattle.history.proofs.Held.{triple_at, Fits, triple_known, triple_from, from_triple, link_coded, same_link, counts}

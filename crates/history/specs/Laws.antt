@@ -5,7 +5,7 @@ use Rattle.lexicon.specs.Rolls.{Lawful}
 use Rattle.cells.specs.Cells.{path_of_labels}
 use Rattle.cells.specs.declared.Cell.{Cell}
 use Rattle.cells.specs.Counting.{in_use, beginnings}
-use Rattle.cells.specs.Trees.{In, Apart}
+use Rattle.members.specs.Lists.{In, Apart}
 use Rattle.cells.specs.Walking.{number_at}
 use Rattle.double_array.specs.Views.{cells_of}
 use Rattle.link_table.specs.Codes.{code_of}

@@ -22,7 +22,7 @@ use Rattle.cells.specs.Walking.{number_at}
 use Rattle.cells.proofs.Basics.{no_some, some_same}
 use Rattle.cells.proofs.Climbs.{held_number}
 use Rattle.cells.proofs.Numbers.{decides_same}
-use Rattle.cells.proofs.Pigeons.{in_counting, apart_counting, in_kept, from_kept, apart_kept}
+use Rattle.members.proofs.Pigeons.{in_counting, apart_counting, in_kept, from_kept, apart_kept}
 use Rattle.double_array.specs.Entries.{is_open, no_place, refusal, Added}
 use Rattle.double_array.specs.Outcomes.{Removed}
 use Rattle.double_array.specs.Spellings.{is_known, path_of, unwritten}

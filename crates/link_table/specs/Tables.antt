@@ -5,7 +5,7 @@ use Rattle.link_table.specs.declared.faults.LinkFault.TheVariants.{TriplePresent
 use Rattle.cells.specs.Cells.{at}
 use Rattle.cells.specs.Laws.{cleared}
 use Rattle.cells.specs.Placing.{enter}
-use Rattle.cells.specs.Trees.{In, Apart}
+use Rattle.members.specs.Lists.{In, Apart}
 use Rattle.cells.specs.Pruning.{take_out}
 use Rattle.cells.specs.Walking.{number_at}
 use Rattle.double_array.specs.Spellings.{is_known, path_of}

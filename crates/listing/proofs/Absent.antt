@@ -3,7 +3,7 @@ use Rattle.std.proofs.Common.{◌≡◌, ℕ, zero, suc, ◌+◌, ◌*◌, ◌/�
 use Rattle.std.proofs.lemmas.Bool.{and_cases, ltb-false}
 use Rattle.cells.specs.declared.Cell.{Cell}
 use Rattle.cells.specs.Cells.{path_of_labels}
-use Rattle.cells.specs.Trees.{In}
+use Rattle.members.specs.Lists.{In}
 use Rattle.cells.specs.Walking.{cell_at, number_at}
 use Rattle.double_array.specs.Views.{cells_of, index_of}
 use Rattle.subtrie.specs.Below.{numbers_from}

@@ -1,9 +1,9 @@
 -- Which rows are listed.
 use Rattle.std.proofs.Common.{◌≡◌, ℕ, zero, suc, ◌<◌, ◌≤◌, Some, None, Option, sym, refl, ap, subst, inl, inr, ⊎_elim, arith}
 use Rattle.std.proofs.lemmas.Bool.{cases_lt}
-use Rattle.cells.specs.Trees.{In}
+use Rattle.members.specs.Lists.{In}
 use Rattle.double_array.specs.Views.{cells_of}
-use Rattle.cells.proofs.Members.{in_append, in_front, in_rest}
+use Rattle.members.proofs.Members.{in_append, in_front, in_rest}
 use Rattle.link_table.specs.Codes.{path_of_triple}
 use Rattle.link_table.specs.Tables.{found}
 use Rattle.link_table.specs.declared.triple.Triple.{Triple}

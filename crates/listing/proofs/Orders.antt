@@ -1,7 +1,7 @@
 -- The rows stand in order.
 use Rattle.std.proofs.Common.{ℕ, zero, suc, List, [], ◌∷◌, ◌++◌, Some, None, Option, sym, refl, ◌∙◌, inl, inr, ⊎_elim, arith}
-use Rattle.cells.specs.Trees.{In}
-use Rattle.cells.proofs.Members.{in_append}
+use Rattle.members.specs.Lists.{In}
+use Rattle.members.proofs.Members.{in_append}
 use Rattle.link_table.specs.Tables.{found}
 use Rattle.link_table.specs.declared.table.LinkTable.{LinkTable}
 use Rattle.listing.specs.declared.row.LinkRow.{LinkRow}

@@ -4,7 +4,7 @@ use Rattle.std.proofs.lemmas.Bool.{not-false}
 use Rattle.refusal.specs.declared.Refusal.{Refusal}
 use Rattle.record.specs.declared.Tally.{Tally}
 use Rattle.cells.proofs.Basics.{some_is}
-use Rattle.cells.proofs.Pigeons.{part_of_sum}
+use Rattle.members.proofs.Pigeons.{part_of_sum}
 use Rattle.link_table.specs.Tables.{found}
 use Rattle.link_table.specs.declared.table.LinkTable.{LinkTable}
 use Rattle.listing.specs.Rows.{rows_by}

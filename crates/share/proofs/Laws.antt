@@ -6,8 +6,8 @@ use Rattle.refusal.specs.declared.Refusal.{Refusal}
 use Rattle.script.specs.Words.{word_sized, WordsApart}
 use Rattle.record.specs.Soundness.{sound_tally}
 use Rattle.record.specs.declared.Tally.{Tally}
-use Rattle.cells.specs.Trees.{In}
-use Rattle.cells.proofs.Pigeons.{in_kept, part_of_sum}
+use Rattle.members.specs.Lists.{In}
+use Rattle.members.proofs.Pigeons.{in_kept, part_of_sum}
 use Rattle.link_table.specs.Tables.{found}
 use Rattle.link_table.specs.declared.table.LinkTable.{LinkTable}
 use Rattle.history.specs.declared.replies.Link.{Link}
@@ -16,7 +16,7 @@ use Rattle.history.specs.Refusals.{first, none, word_refusals, sought_refusals}
 use Rattle.history.specs.Calls.{answered, link_in, held_in, refusal_of_sought}
 use Rattle.history.specs.Runs.{PresentTriple, same_word, same_triple, present}
 use Rattle.history.specs.Laws.{Unless}
-use Rattle.history.proofs.Members.{kept_map}
+use Rattle.members.proofs.Filters.{kept_map}
 use Rattle.history.proofs.Options.{none_applies, applies_none}
 use Rattle.history.proofs.Held.{Fits, triple_from}
 use Rattle.history.proofs.Steps.{held_of}

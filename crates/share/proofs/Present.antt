@@ -4,8 +4,8 @@ use Rattle.std.specs.List.{filter_map, cons_option}
 use Rattle.std.proofs.lemmas.Bool.{eqb-true, eq-eqb, and_parts, and_from, both_ways}
 use Rattle.std.proofs.lemmas.List.Sums.{sum_by-cons}
 use Rattle.record.specs.declared.Tally.{Tally}
-use Rattle.cells.specs.Trees.{In}
-use Rattle.cells.proofs.Pigeons.{in_kept, from_kept, apart_kept, sums_under}
+use Rattle.members.specs.Lists.{In}
+use Rattle.members.proofs.Pigeons.{in_kept, from_kept, apart_kept, sums_under}
 use Rattle.link_table.specs.Tables.{found, coded, numbers}
 use Rattle.link_table.specs.declared.table.LinkTable.{LinkTable}
 use Rattle.link_table.specs.declared.triple.Triple.{Triple}

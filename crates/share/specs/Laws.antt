@@ -5,7 +5,7 @@ use Rattle.script.specs.declared.Script.{Ghosts as Scripts}
 use Rattle.lexicon.specs.declared.ReadableList.{Ghosts as Lists}
 use Rattle.record.specs.Soundness.{sound_tally}
 use Rattle.record.specs.declared.Tally.{Tally}
-use Rattle.cells.specs.Trees.{In}
+use Rattle.members.specs.Lists.{In}
 use Rattle.history.specs.Kits.{Kit, kit_of, State, number_in}
 use Rattle.history.specs.Refusals.{first, sought_refusals}
 use Rattle.history.specs.Runs.{History, PresentTriple, same_word, same_triple, present, Reached}

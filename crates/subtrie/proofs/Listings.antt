@@ -4,7 +4,7 @@ use Rattle.std.proofs.lemmas.List.{length-map, get_or-map}
 use Rattle.std.proofs.lemmas.Bool.{cases_lt, cond-true, cond_both, and_parts, and_from}
 use Rattle.cells.specs.declared.Cell.{Cell}
 use Rattle.cells.specs.Cells.{at, number, child, all_codes}
-use Rattle.cells.specs.Trees.{In}
+use Rattle.members.specs.Lists.{In}
 use Rattle.cells.specs.Walking.{onward, walk, cell_at, number_at}
 use Rattle.cells.specs.Invariant.{Sound}
 use Rattle.cells.proofs.Basics.{no_some, some_same}
@@ -16,7 +16,7 @@ use Rattle.double_array.proofs.Spells.{named_of}
 use Rattle.subtrie.specs.Below.{at_found, numbers_below, numbers_from}
 use Rattle.subtrie.specs.Order.{Before}
 use Rattle.subtrie.specs.Laws.{Listed, Members, Ordered}
-use Rattle.cells.proofs.Members.{in_map, map_in, map_through}
+use Rattle.members.proofs.Members.{in_map, map_in, map_through}
 use Rattle.subtrie.proofs.Orders.{before_front, before_self, rising_map, rising_at}
 use Rattle.subtrie.proofs.Paths.{number_on, below}
 

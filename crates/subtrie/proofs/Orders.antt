@@ -1,8 +1,8 @@
 -- The order of paths.
 use Rattle.std.proofs.Common.{ℕ, zero, suc, ◌<◌, List, [], ◌∷◌, ◌++◌, map, length, get_or, sym, refl, subst, inl, inr, ⊎_elim, arith}
-use Rattle.cells.specs.Trees.{In}
+use Rattle.members.specs.Lists.{In}
 use Rattle.subtrie.specs.Order.{Before, Rising}
-use Rattle.cells.proofs.Members.{in_append, in_at, map_in}
+use Rattle.members.proofs.Members.{in_append, in_at, map_in}
 
 -- a common beginning does not matter
 pub before_front : (p q r : List ℕ) → Before q r → Before (p ++ q) (p ++ r)

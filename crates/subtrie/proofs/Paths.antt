@@ -5,13 +5,13 @@ use Rattle.std.proofs.lemmas.List.{map-append}
 use Rattle.std.proofs.lemmas.Bool.{cases_eq, cond-false, and_left}
 use Rattle.cells.specs.declared.Cell.{Cell}
 use Rattle.cells.specs.Cells.{at, nat, number, edge, child}
-use Rattle.cells.specs.Trees.{In}
+use Rattle.members.specs.Lists.{In}
 use Rattle.cells.specs.Walking.{onward, walk}
 use Rattle.cells.proofs.Basics.{no_some}
 use Rattle.cells.proofs.Walks.{Codes}
 use Rattle.subtrie.specs.Below.{at_found, leaf_or, edge_numbers, numbers_below}
 use Rattle.subtrie.specs.Order.{Before, Rising}
-use Rattle.cells.proofs.Members.{in_append, in_front, in_rest, in_map, map_in, map_through}
+use Rattle.members.proofs.Members.{in_append, in_front, in_rest, in_map, map_in, map_through}
 use Rattle.subtrie.proofs.Orders.{rising_append, rising_map}
 
 -- the number of the leaf that the codes lead to from s

@@ -2,7 +2,7 @@
 use Rattle.std.specs.Prelude.{◌≡◌, ℕ, ◌<◌, ◌≤◌, List, ◌++◌, map, length, Some, ◌≢◌, slice_index}
 use Rattle.cells.specs.declared.Cell.{Cell}
 use Rattle.cells.specs.Walking.{number_at}
-use Rattle.cells.specs.Trees.{In}
+use Rattle.members.specs.Lists.{In}
 use Rattle.subtrie.specs.Order.{Before, Rising}
 
 -- ns are the numbers of the held paths that begin with p, each path once and in the order of the paths

@@ -1,6 +1,6 @@
 -- The order of paths.
 use Rattle.std.specs.Prelude.{◌≡◌, ℕ, ◌<◌, ◌⊎◌, List, [], ◌∷◌}
-use Rattle.cells.specs.Trees.{In}
+use Rattle.members.specs.Lists.{In}
 
 -- p comes before q: at the first place where they differ p has the lower code, or p is a beginning of q
 abbrev pub Before : List ℕ → List ℕ → Type 0

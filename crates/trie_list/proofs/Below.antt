@@ -8,9 +8,9 @@ use Rattle.lexicon.specs.declared.ListFault.TheVariants.{OutputTooShort}
 use Rattle.lexicon.specs.Rolls.{numbered, word_of}
 use Rattle.lexicon.proofs.Numbers.{numbered_bounds, number_word}
 use Rattle.cells.specs.Cells.{label_code, path_of_labels}
-use Rattle.cells.specs.Trees.{In}
+use Rattle.members.specs.Lists.{In}
 use Rattle.cells.specs.Walking.{number_at}
-use Rattle.cells.proofs.Members.{in_at}
+use Rattle.members.proofs.Members.{in_at}
 use Rattle.double_array.specs.Views.{cells_of, index_of}
 use Rattle.output.specs.Written.{fits, written, Filled}
 use Rattle.subtrie.specs.Order.{Before}

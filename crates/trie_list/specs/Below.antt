@@ -5,7 +5,7 @@ use Rattle.lexicon.specs.declared.ListFault.TheVariants.{WordLength, OutputTooSh
 use Rattle.output.specs.Written.{fits, written}
 use Rattle.lexicon.specs.Rolls.{numbered, word_of}
 use Rattle.cells.specs.Cells.{path_of_labels}
-use Rattle.cells.specs.Trees.{In}
+use Rattle.members.specs.Lists.{In}
 use Rattle.double_array.specs.Views.{cells_of}
 use Rattle.subtrie.specs.Below.{numbers_from}
 use Rattle.subtrie.specs.Order.{Before}

@@ -2,9 +2,9 @@
 use Rattle.std.proofs.Common.{◌≡◌, ℕ, zero, suc, ◌+◌, ◌<◌, ◌≤◌, Bool, true, false, cond, List, [], ◌∷◌, map, length, set, Some, filter, sym, refl, ap, ◌∙◌, subst, inl, inr, ⊎_elim, le_antisymm, arith}
 use Rattle.std.specs.List.{slice_get, range_with_len}
 use Rattle.std.proofs.lemmas.Bool.{cases_Bool, cond-true, cond-false, both_ways}
-use Rattle.cells.specs.Trees.{In, Apart}
-use Rattle.cells.proofs.Pigeons.{pigeons}
-use Rattle.cells.proofs.Members.{in_map}
+use Rattle.members.specs.Lists.{In, Apart}
+use Rattle.members.proofs.Pigeons.{pigeons}
+use Rattle.members.proofs.Members.{in_map}
 
 module _ {X Y : Type 0} (f : X → Y) where
   -- members whose values are apart are equal if their values are

@@ -3,7 +3,7 @@ use Rattle.std.proofs.Common.{◌≡◌, ℕ, zero, suc, ◌+◌, ◌<◌, ◌�
 use Rattle.std.specs.List.{range_with_len}
 use Rattle.std.proofs.lemmas.Bool.{cases_eq, cases_Bool, cond-true, cond-false}
 use Rattle.std.proofs.lemmas.List.Sums.{sum_by-cons}
-use Rattle.cells.specs.Trees.{In, Apart}
+use Rattle.members.specs.Lists.{In, Apart}
 
 module _ {Y : Type 0} (g : Y → ℕ) where
   -- the list without one of its members

@@ -1,6 +1,6 @@
 -- Members of lists that are joined or mapped.
 use Rattle.std.proofs.Common.{◌≡◌, ℕ, zero, suc, ◌<◌, ◌⊎◌, List, [], ◌∷◌, ◌++◌, map, length, get_or, sym, refl, ap, ◌∙◌, inl, inr, ⊎_elim, arith}
-use Rattle.cells.specs.Trees.{In}
+use Rattle.members.specs.Lists.{In}
 
 module _ {X : Type 0} where
   pub in_append : (xs ys : List X) (a : X) → In (xs ++ ys) a → In xs a ⊎ In ys a

@@ -1,0 +1,3 @@
+pub mod Members
+pub mod Pigeons
+pub mod Filters
