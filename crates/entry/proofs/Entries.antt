@@ -14,7 +14,7 @@ use Rattle.lexicon.specs.Answers.{held_or_next, enter_answer, is_new, EnterLeave
 use Rattle.lexicon.proofs.Numbers.{bounds_label, number_some, number_from_kept, number_from_last, number_from_only}
 use Rattle.entry.specs.declared.WordEntry.{WordEntry}
 use Rattle.entry.specs.declared.WordEntry.TheVariants.{New, Held}
-use Rattle.entry.specs.Entries.{held_or_new, entry_answer, number_in, KeepsNumbers}
+use Rattle.entry.specs.Entries.{held_or_new, entry_answer, number_entered, KeepsNumbers}
 
 -- what the list's answer becomes, where the list had so many words before
 abbrev pub entry_from : ℕ → Result ℕ ListFault → Result WordEntry Refusal
@@ -51,11 +51,11 @@ module _ {S : Type 0} (spelling : S → List ℕ) (before : List (List ℕ)) (ro
       ∙ sym (cond-true (word_sized word) (held_or_new (number_of before (spelled spelling word)) room (length before)) (Err (WordLength Neither)) sized)
 
   -- nothing was entered
-  same_roll : (after : List (List ℕ)) (x : Result WordEntry Refusal) → after ≡ before → IfOk x (λ entry. number_of before (spelled spelling word) ≡ Some (number_in entry)) → KeepsNumbers spelling before word after x
+  same_roll : (after : List (List ℕ)) (x : Result WordEntry Refusal) → after ≡ before → IfOk x (λ entry. number_of before (spelled spelling word) ≡ Some (number_entered entry)) → KeepsNumbers spelling before word after x
   same_roll after x same found = record {
     kept = λ v n e. ap (λ (r : List (List ℕ)). number_of r (spelled spelling v)) same ∙ e;
     only = λ v n e. inl (sym (ap (λ (r : List (List ℕ)). number_of r (spelled spelling v)) same) ∙ e);
-    entered = subst (λ (r : List (List ℕ)). IfOk x (λ entry. number_of r (spelled spelling word) ≡ Some (number_in entry))) (sym same) found;
+    entered = subst (λ (r : List (List ℕ)). IfOk x (λ entry. number_of r (spelled spelling word) ≡ Some (number_entered entry))) (sym same) found;
   }
 
   -- the word is the last of the roll

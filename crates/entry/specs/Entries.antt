@@ -29,9 +29,9 @@ abbrev pub is_new_word : {S : Type 0} → (S → List ℕ) → List (List ℕ) �
 is_new_word spelling roll room word = word_sized word && is_new roll room (spelled spelling word)
 
 -- the number in an entry
-abbrev pub number_in : WordEntry → ℕ
-number_in (New number) = number
-number_in (Held number) = number
+abbrev pub number_entered : WordEntry → ℕ
+number_entered (New number) = number
+number_entered (Held number) = number
 
 -- the numbers of words before and after a word was entered
 pub record KeepsNumbers {S : Type 0} (spelling : S → List ℕ) (before : List (List ℕ)) (word : List S) (after : List (List ℕ)) (answer : Result WordEntry Refusal) : Type 0 where
@@ -40,15 +40,15 @@ pub record KeepsNumbers {S : Type 0} (spelling : S → List ℕ) (before : List 
   -- a word that has a number had it before, or is the one entered
   pub only : (v : List S) (n : ℕ) → number_of after (spelled spelling v) ≡ Some n → (number_of before (spelled spelling v) ≡ Some n) ⊎ (v ≡ word)
   -- the word entered has the number that is answered
-  pub entered : IfOk answer (λ entry. number_of after (spelled spelling word) ≡ Some (number_in entry))
+  pub entered : IfOk answer (λ entry. number_of after (spelled spelling word) ≡ Some (number_entered entry))
 
 -- how many labels the word of a number has; 0 where no word has the number
 abbrev pub labels_at : List (List ℕ) → ℕ → ℕ
 labels_at roll number = cond (numbered roll number) (length (word_of roll number)) 0
 
 -- how many labels the words have together
-abbrev pub labels_in : List (List ℕ) → ℕ
-labels_in roll = sum_by length roll
+abbrev pub label_total : List (List ℕ) → ℕ
+label_total roll = sum_by length roll
 
 -- the text of a line as it was read: without its line feed, which is byte 10; none of no bytes
 abbrev pub line_of : List ℕ → Option (List ℕ)

@@ -9,7 +9,7 @@ ghost use Rattle.std.specs.Option.{option_map};
 ghost use Rattle.lexicon.specs.Answers.{EnterLeaves};
 ghost use Rattle.lexicon.specs.Rolls.{Lawful};
 ghost use Rattle.script.specs.Words.{spelled};
-ghost use Rattle.entry.specs.Entries.{entry_answer, is_new_word, KeepsNumbers, labels_at, labels_in, line_of, asked_of, reply_of, reply_text};
+ghost use Rattle.entry.specs.Entries.{entry_answer, is_new_word, KeepsNumbers, labels_at, label_total, line_of, asked_of, reply_of, reply_text};
 
 use lexicon::{GrowingList, ReadableList};
 use refusal::{Refusal, Report};
@@ -59,7 +59,7 @@ fn label_count<L: ReadableList>(list: &L, number: u16) -> usize
 
 // How many labels the words of the list have together.
 pub fn labels_held<L: ReadableList>(list: &L) -> usize
-    ensures { result ≡ labels_in (L.ReadableList.roll list.now) }
+    ensures { result ≡ label_total (L.ReadableList.roll list.now) }
 {
     // A loop: of a chain's `sum` the bound is not proved (tried).
     let mut labels = 0usize;

@@ -148,13 +148,14 @@ abbrev pub one_if : Bool → ℕ → ℕ
 one_if true k = suc k
 one_if false k = k
 
--- one more, if the call was an accepted add or tie
+-- one more, if the effect was accepted and puts a triple in
 abbrev pub put_by_effect : {S R : Type 0} → Effect S R → Bool → ℕ → ℕ
 put_by_effect quiet b k = k
 put_by_effect (puts_in x y q r) b k = one_if b k
 put_by_effect (takes_out x y q) b k = k
 put_by_effect (gives u r) b k = k
 
+-- one more, if the call was an accepted add or tie
 abbrev pub put_after : {S R : Type 0} → Call S R → Bool → ℕ → ℕ
 put_after c b k = put_by_effect (effect_of c) b k
 
@@ -163,13 +164,14 @@ abbrev pub puts : {S R : Type 0} → History S R → ℕ
 puts [] = 0
 puts (e ∷ h) = put_after e.call (is_ok e.answer) (puts h)
 
--- one more, if the call was an accepted delete
+-- one more, if the effect was accepted and takes a triple out
 abbrev pub delete_by_effect : {S R : Type 0} → Effect S R → Bool → ℕ → ℕ
 delete_by_effect quiet b k = k
 delete_by_effect (puts_in x y q r) b k = k
 delete_by_effect (takes_out x y q) b k = one_if b k
 delete_by_effect (gives u r) b k = k
 
+-- one more, if the call was an accepted delete
 abbrev pub delete_after : {S R : Type 0} → Call S R → Bool → ℕ → ℕ
 delete_after c b k = delete_by_effect (effect_of c) b k
 

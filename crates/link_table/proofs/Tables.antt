@@ -33,7 +33,7 @@ use Rattle.double_array.proofs.Refusals.{judged_by}
 use Rattle.double_array.proofs.Spells.{named_of}
 use Rattle.link_table.specs.Codes.{path_of_triple, triple_of, is_triple_path, Triples}
 use Rattle.link_table.specs.Numbers.{held_numbers, Numbered}
-use Rattle.link_table.specs.Tables.{limit, found, coded, numbers, all_held, has_place, Lawful, Put, Out, put_refusal, Puts}
+use Rattle.link_table.specs.Tables.{limit, found, coded, numbers, all_held, has_place, IsConsistent, Put, Out, put_refusal, Puts}
 use Rattle.link_table.specs.declared.triple.Triple.{Triple}
 use Rattle.link_table.specs.declared.table.LinkTable.{LinkTable}
 use Rattle.link_table.proofs.Labels.{five_long, path_back, triple_back, triple_five, number_codes}
@@ -100,7 +100,7 @@ module _ (s : LinkTable) where
       let has = (named_of cs is s.array.sound u).held known in
       (number_low cs (path_of cs is u) u has, number_high cs (limit s) (path_of cs is u) u s.numbered has)
 
-  pub lawful : Lawful s
+  pub lawful : IsConsistent s
   lawful = record {
     to_triple = to_triple;
     to_number = to_number;

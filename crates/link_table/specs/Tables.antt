@@ -40,7 +40,7 @@ abbrev pub has_place : LinkTable → Triple → Bool
 has_place s t = is_some (enter (cells_of s.array) (index_of s.array) (path_of_triple t) 0)
 
 -- what holds of every table
-pub record Lawful (s : LinkTable) : Type 0 where
+pub record IsConsistent (s : LinkTable) : Type 0 where
   -- number and triple are inverse
   pub to_triple : (t : Triple) (u : ℕ) → found s t ≡ Some u → coded s u ≡ Some t
   pub to_number : (t : Triple) (u : ℕ) → coded s u ≡ Some t → found s t ≡ Some u

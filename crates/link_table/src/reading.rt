@@ -3,7 +3,7 @@ ghost use Rattle.std.specs.Prelude.{◌≡◌, length};
 ghost use Rattle.cells.specs.Counting.{in_use};
 ghost use Rattle.double_array.specs.Outcomes.{CountsBeginnings};
 ghost use Rattle.double_array.specs.Views.{cells_of, index_of};
-ghost use Rattle.link_table.specs.Tables.{limit as limit_of, found, coded, numbers, Lawful};
+ghost use Rattle.link_table.specs.Tables.{limit as limit_of, found, coded, numbers, IsConsistent};
 
 use super::codes::{read_code, write_code};
 use super::table::LinkTable;
@@ -15,7 +15,7 @@ impl LinkTable {
     // The link number of the triple, or none.
     pub fn number_of(&self, triple: Triple) -> Option<u32>
         ensures number { result ≡ found self.now triple }
-        ensures laws { Lawful self.now }
+        ensures laws { IsConsistent self.now }
     {
         self.array.number_at(&write_code(triple))
     }
@@ -23,7 +23,7 @@ impl LinkTable {
     // The triple that has the link number, or none.
     pub fn triple_of(&self, number: u32) -> Option<Triple>
         ensures triple { result ≡ coded self.now number }
-        ensures laws { Lawful self.now }
+        ensures laws { IsConsistent self.now }
     {
         // A path is written into an output that is lent: a rule of the project.
         let mut path = [0u16; 5];

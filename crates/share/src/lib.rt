@@ -27,8 +27,8 @@ use store::RelationTable;
 
 // The share of a present triple: its count, in millionths of what the counts of the present triples with
 // its X and its relation add up to. The quotient goes to the nearest whole number, and from halfway
-// between two to the larger; it is at most 1,000,000. Refused, in this order: X or Y has no symbol or more than 32, the relation
-// is 0, X or Y is not in the list, the triple is not present.
+// between two to the larger; it is at most 1,000,000. Refused, in this order: X or Y has no symbol or
+// more than 32, the relation is 0, X or Y is not in the list, the triple is not present.
 pub fn share<S: Script, L: ReadableList>(
     table: &RelationTable,
     list: &L,

@@ -1,7 +1,7 @@
 use Rattle.std.proofs.Common.{◌≡◌, ◌*◌, ◌≤◌, take}
-use Rattle.entry.specs.Entries.{labels_in}
+use Rattle.entry.specs.Entries.{label_total}
 use Rattle.entry.proofs.labels_held.Given as goal
 
 abbrev pub invariant-loop-index : goal.invariant-loop-index
 invariant-loop-index g l =
-    (l.labels ≤ 128 * l.index) × (l.labels ≡ labels_in (take l.index (g.L.ReadableList.roll l.list)))
+    (l.labels ≤ 128 * l.index) × (l.labels ≡ label_total (take l.index (g.L.ReadableList.roll l.list)))
