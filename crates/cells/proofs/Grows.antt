@@ -4,8 +4,8 @@ use Rattle.std.proofs.lemmas.List.{get_or_past, length-set}
 use Rattle.std.proofs.lemmas.Bool.{cond_both, and_parts, cases_eq, cases_lt}
 use Rattle.cells.specs.declared.Cell.{Cell}
 use Rattle.cells.specs.Cells.{at, nat, base_of, parent, is_free, child_codes, some_code}
-use Rattle.cells.specs.Placing.{lowest, Lowest, relocated, index_relocated, placed, Spot, placed_at, place, then_place, grow}
-use Rattle.cells.specs.Walking.{turned}
+use Rattle.cells.specs.Placing.{lowest, Lowest, relocated, index_relocated, placed, Spot, placed_at, place, grow}
+use Rattle.cells.specs.Walking.{onward, turned}
 use Rattle.members.specs.Lists.{In}
 use Rattle.cells.specs.Trees.{Edge, Reach, Held, Room}
 use Rattle.cells.proofs.Trees.{Tree, Lone, NotLeaf, WholeBut, Family}
@@ -22,7 +22,7 @@ use Rattle.cells.proofs.Places.{taking, placing, free_m, long_m, m}
 use Rattle.cells.proofs.Leaves.{Indexed, index_moved, index_open, index_leaf, leaf_used, length_index_moves}
 use Rattle.cells.proofs.Families.{room_from, inner_of}
 
-pub then_some : {X : Type 0} (o : Option Spot) (g : Spot → Option X) (x : X) → then_place o g ≡ Some x → (r : Spot) × (o ≡ Some r) × (g r ≡ Some x)
+pub then_some : {X : Type 0} (o : Option Spot) (g : Spot → Option X) (x : X) → onward o g ≡ Some x → (r : Spot) × (o ≡ Some r) × (g r ≡ Some x)
 then_some None g x e = absurd (no_some x e)
 then_some (Some r) g x e = (r, refl, e)
 

@@ -2,9 +2,10 @@
 use Rattle.std.specs.Prelude.{◌≡◌, ℕ, suc, List, [], ◌∷◌, length, replicate, ℤ, pos, negsuc, Some, None, Option, slice_set}
 use Rattle.cells.specs.declared.Cell.{Cell}
 use Rattle.cells.specs.Cells.{free_cell, root_cell, base_of}
-use Rattle.cells.specs.Placing.{Arrays, then_place, grow, enter, undo}
+use Rattle.cells.specs.Placing.{Arrays, grow, enter, undo}
 use Rattle.cells.specs.Pruning.{take_out}
 use Rattle.cells.specs.Counting.{in_use, held_paths, beginnings}
+use Rattle.cells.specs.Walking.{onward}
 
 -- n cells without a path, with an index of k entries
 abbrev pub new_arrays : ℕ → ℕ → Arrays
@@ -21,19 +22,14 @@ abbrev pub with_cells : List Cell → List CellAt → List Cell
 with_cells cs [] = cs
 with_cells cs (c ∷ more) = with_cells (slice_set cs c.place (record { base = c.base; check = pos c.check })) more
 
--- what is done with what there is
-abbrev pub then_with : {X : Type 0} → Option Arrays → (Arrays → Option X) → Option X
-then_with None f = None
-then_with (Some xs) f = f xs
-
 -- the paths are entered in turn, with the numbers from n + 1 up
 abbrev pub enter_all : Option Arrays → ℕ → List (List ℕ) → Option Arrays
 enter_all o n [] = o
-enter_all o n (p ∷ more) = enter_all (then_with o (λ xs. enter xs.cells xs.index p n)) (suc n) more
+enter_all o n (p ∷ more) = enter_all (onward o (λ xs. enter xs.cells xs.index p n)) (suc n) more
 
 -- how many cells are then in use
 abbrev pub used_then : Option Arrays → Option ℕ
-used_then o = then_with o (λ xs. Some (in_use xs.cells))
+used_then o = onward o (λ xs. Some (in_use xs.cells))
 
 -- the label a, with the end sign
 abbrev pub a_path : List ℕ
@@ -75,7 +71,7 @@ two_held = record {
 -- the paths are taken out in turn
 abbrev pub out_all : Option Arrays → List (List ℕ) → Option Arrays
 out_all o [] = o
-out_all o (p ∷ more) = out_all (then_with o (λ xs. take_out xs.cells xs.index p)) more
+out_all o (p ∷ more) = out_all (onward o (λ xs. take_out xs.cells xs.index p)) more
 
 -- what comes of them
 pub record Examples : Type 0 where
@@ -103,9 +99,9 @@ pub record Examples : Type 0 where
   pub nine : used_then (enter_all (Some (new_arrays 12 3)) 0 (first_path ∷ second_path ∷ [])) ≡ Some 9
   pub no_third : enter_all (Some (new_arrays 12 3)) 0 (first_path ∷ second_path ∷ third_path ∷ []) ≡ None
   -- without the second, seven of the ten are left
-  pub out : used_then (then_with (enter_all (Some (new_arrays 13 3)) 0 (first_path ∷ second_path ∷ third_path ∷ [])) (λ xs. take_out xs.cells xs.index second_path)) ≡ Some 7
+  pub out : used_then (onward (enter_all (Some (new_arrays 13 3)) 0 (first_path ∷ second_path ∷ third_path ∷ [])) (λ xs. take_out xs.cells xs.index second_path)) ≡ Some 7
   -- an only path is entered and taken out: what is left is the new array
-  pub empty : then_with (enter_all (Some (new_arrays 8 3)) 0 (first_path ∷ [])) (λ xs. take_out xs.cells xs.index first_path) ≡ Some (new_arrays 8 3)
+  pub empty : onward (enter_all (Some (new_arrays 8 3)) 0 (first_path ∷ [])) (λ xs. take_out xs.cells xs.index first_path) ≡ Some (new_arrays 8 3)
   pub two : enter_all (Some (new_arrays 10 3)) 0 two_paths ≡ Some two_held
   -- climbing from their leaves spells the two paths, and the cells in use are one more than their four beginnings
   pub held : held_paths two_held.cells ≡ two_paths
@@ -121,7 +117,7 @@ pub record Examples : Type 0 where
   -- without the three the root has the BASE 1 again
   pub emptied : out_all (enter_all (Some two_held) 2 ((1 ∷ []) ∷ [])) ((1 ∷ []) ∷ two_paths) ≡ Some (new_arrays 10 3)
   -- two new cells below the root, for which its family moved, are undone
-  pub undone : then_place (grow (1 ∷ []) two_held.cells two_held.index 1 1 (pos 0)) (λ r. Some (undo r.cells r.index 1 (base_of two_held.cells 1) 2 r.spot)) ≡ Some two_held
+  pub undone : onward (grow (1 ∷ []) two_held.cells two_held.index 1 1 (pos 0)) (λ r. Some (undo r.cells r.index 1 (base_of two_held.cells 1) 2 r.spot)) ≡ Some two_held
   -- two cells are a root and no more, and fewer have none in use
   pub none : enter_all (Some (new_arrays 2 3)) 0 ((1 ∷ []) ∷ []) ≡ None
   pub root : in_use (new_arrays 2 3).cells ≡ 1

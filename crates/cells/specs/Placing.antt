@@ -3,6 +3,7 @@ use Rattle.std.specs.Prelude.{◌≡◌, ℕ, zero, suc, ◌+◌, ◌<◌, ◌�
 use Rattle.std.specs.List.{range_with_len}
 use Rattle.cells.specs.declared.Cell.{Cell}
 use Rattle.cells.specs.Cells.{free_cell, at, nat, base_of, parent, entry, same_int, is_free, is_leaf, child, child_codes, some_code, all_codes}
+use Rattle.cells.specs.Walking.{onward}
 
 -- whether each of the codes has a free cell at the base b
 abbrev pub all_free : List Cell → List ℕ → ℕ → Bool
@@ -108,19 +109,14 @@ place cs is s a z =
     cond (some_code codes && is_free cs t) (Some (record { cells = slice_set cs t (record { base = z; check = pos s }); index = is; spot = t }))
     (placed_at cs is s codes a z (lowest cs (codes ++ a ∷ [])))
 
--- what is done after a child was placed, and nothing where there was no place
-abbrev pub then_place : {X : Type 0} → Option Spot → (Spot → Option X) → Option X
-then_place None f = None
-then_place (Some r) f = f r
-
 -- s gets a child by a, that one a child by the next of the codes, and so on; the last has the BASE z, and those above it are open (BASE 0) until they get their child
 abbrev pub grow : List ℕ → List Cell → List ℕ → ℕ → ℕ → ℤ → Option Spot
 grow [] cs is s a z = place cs is s a z
-grow (b ∷ more) cs is s a z = then_place (place cs is s a (pos 0)) (λ r. grow more r.cells r.index r.spot b z)
+grow (b ∷ more) cs is s a z = onward (place cs is s a (pos 0)) (λ r. grow more r.cells r.index r.spot b z)
 
 -- the codes a and more lead from s to a new leaf with the number n + 1
 abbrev pub extend : List ℕ → List Cell → List ℕ → ℕ → ℕ → ℕ → Option Arrays
-extend more cs is s a n = then_place (grow more cs is s a (negsuc n)) (λ r. Some (record { cells = r.cells; index = slice_set r.index n r.spot }))
+extend more cs is s a n = onward (grow more cs is s a (negsuc n)) (λ r. Some (record { cells = r.cells; index = slice_set r.index n r.spot }))
 
 -- one answer where nothing was found, and f at what was
 abbrev pub found_or : Option ℕ → Option Arrays → (ℕ → Option Arrays) → Option Arrays

@@ -4,9 +4,9 @@ use Rattle.cells.specs.declared.Cell.{Cell}
 use Rattle.cells.specs.Cells.{at, base_of, parent, number, child, all_codes}
 
 -- the answer of f at what was found, and none where nothing was
-abbrev pub onward : Option ℕ → (ℕ → Option ℕ) → Option ℕ
+abbrev pub onward : {X Y : Type 0} → Option X → (X → Option Y) → Option Y
 onward None f = None
-onward (Some t) f = f t
+onward (Some x) f = f x
 
 -- the cell that the codes lead to from s
 abbrev pub walk : List Cell → ℕ → List ℕ → Option ℕ

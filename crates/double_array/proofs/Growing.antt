@@ -4,11 +4,12 @@ use Rattle.std.proofs.lemmas.List.{at_drop_more, at_drop_all, take_more, length-
 use Rattle.std.proofs.lemmas.Bool.{cases_eq, cond-true, eq-eqb, and_parts, and_from}
 use Rattle.cells.specs.declared.Cell.{Cell}
 use Rattle.cells.specs.Cells.{at, base_of, parent, child, child_codes, is_code, all_codes}
-use Rattle.cells.specs.Placing.{Spot, place, then_place, grow, freed_up, relocated, undo}
+use Rattle.cells.specs.Placing.{Spot, place, grow, freed_up, relocated, undo}
 use Rattle.members.specs.Lists.{In}
 use Rattle.cells.specs.Trees.{Reach}
 use Rattle.cells.specs.Invariant.{Sound}
 use Rattle.cells.specs.Laws.{Open}
+use Rattle.cells.specs.Walking.{onward}
 use Rattle.cells.proofs.Trees.{Tree, NotLeaf, Family}
 use Rattle.cells.proofs.Paths.{edge_up, reach_some}
 use Rattle.cells.proofs.Counts.{within}
@@ -34,11 +35,11 @@ abbrev pub step_base : List ℕ → ℤ → ℤ
 step_base [] z = z
 step_base (b ∷ more) z = pos 0
 
-then_all : (o : Option Spot) → o ≡ then_place o Some
+then_all : (o : Option Spot) → o ≡ onward o Some
 then_all None = refl
 then_all (Some r) = refl
 
-grow_at : (a : ℕ) (more : List ℕ) (z : ℤ) (r : Spot) → grow_on (a ∷ more) z r ≡ then_place (place r.cells r.index r.spot a (step_base more z)) (grow_on more z)
+grow_at : (a : ℕ) (more : List ℕ) (z : ℤ) (r : Spot) → grow_on (a ∷ more) z r ≡ onward (place r.cells r.index r.spot a (step_base more z)) (grow_on more z)
 grow_at a [] z r = then_all (place r.cells r.index r.spot a z)
 grow_at a (b ∷ more) z r = refl
 
@@ -50,23 +51,23 @@ module _ (codes : List ℕ) (i : ℕ) (z : ℤ) where
   step_last h = at_drop_all (λ l. step_base l z) codes (i + 1) h
 
   module _ (r : Spot) (y : ℤ) (within : i < length codes) (base : y ≡ step_base (drop (i + 1) codes) z) where
-    pub grow_next : (o : Option Spot) → place r.cells r.index r.spot (get_or codes i 0) y ≡ o → then_place o (grow_on (drop (i + 1) codes) z) ≡ grow_on (drop i codes) z r
+    pub grow_next : (o : Option Spot) → place r.cells r.index r.spot (get_or codes i 0) y ≡ o → onward o (grow_on (drop (i + 1) codes) z) ≡ grow_on (drop i codes) z r
     grow_next o e =
-        ap (λ x. then_place x (grow_on (drop (i + 1) codes) z)) (sym e ∙ ap (place r.cells r.index r.spot (get_or codes i 0)) base)
+        ap (λ x. onward x (grow_on (drop (i + 1) codes) z)) (sym e ∙ ap (place r.cells r.index r.spot (get_or codes i 0)) base)
         ∙ sym (at_drop_more (λ l. grow_on l z r) codes i 0 within ∙ grow_at (get_or codes i 0) (drop (i + 1) codes) z r)
 
 same_base : (xs : List ℕ) → step_base xs (pos 0) ≡ pos 0
 same_base [] = refl
 same_base (x ∷ xs) = refl
 
-grow_first : (x : ℕ) (xs : List ℕ) (r : Spot) → grow_on (x ∷ xs) (pos 0) r ≡ then_place (place r.cells r.index r.spot x (pos 0)) (grow_on xs (pos 0))
-grow_first x xs r = grow_at x xs (pos 0) r ∙ ap (λ z. then_place (place r.cells r.index r.spot x z) (grow_on xs (pos 0))) (same_base xs)
+grow_first : (x : ℕ) (xs : List ℕ) (r : Spot) → grow_on (x ∷ xs) (pos 0) r ≡ onward (place r.cells r.index r.spot x (pos 0)) (grow_on xs (pos 0))
+grow_first x xs r = grow_at x xs (pos 0) r ∙ ap (λ z. onward (place r.cells r.index r.spot x z) (grow_on xs (pos 0))) (same_base xs)
 
 grow_push : (xs : List ℕ) (a : ℕ) (st r f : Spot) → grow_on xs (pos 0) st ≡ Some r → place r.cells r.index r.spot a (pos 0) ≡ Some f → grow_on (xs ++ a ∷ []) (pos 0) st ≡ Some f
 grow_push [] a st r f e p = subst (λ x. place x.cells x.index x.spot a (pos 0) ≡ Some f) (sym (some_same st r e)) p
 grow_push (x ∷ xs) a st r f e p =
     let k = then_some (place st.cells st.index st.spot x (pos 0)) (grow_on xs (pos 0)) r (sym (grow_first x xs st) ∙ e) in
-    grow_first x (xs ++ a ∷ []) st ∙ ap (λ o. then_place o (grow_on (xs ++ a ∷ []) (pos 0))) k.1 ∙ grow_push xs a k.0 r f k.2 p
+    grow_first x (xs ++ a ∷ []) st ∙ ap (λ o. onward o (grow_on (xs ++ a ∷ []) (pos 0))) k.1 ∙ grow_push xs a k.0 r f k.2 p
 
 -- one more of the codes has grown
 pub grow_more : (codes : List ℕ) (i : ℕ) (st r f : Spot) → i < length codes → grow_on (take i codes) (pos 0) st ≡ Some r → place r.cells r.index r.spot (get_or codes i 0) (pos 0) ≡ Some f → grow_on (take (i + 1) codes) (pos 0) st ≡ Some f
@@ -74,9 +75,9 @@ grow_more codes i st r f within e p = ap (λ l. grow_on l (pos 0) st) (take_more
 
 -- all of them have grown, or one has no place
 pub extended_is : (codes : List ℕ) (cs : List Cell) (is : List ℕ) (s n : ℕ) (o : Option Spot) → 0 < length codes → grow_on codes (negsuc n) (record { cells = cs; index = is; spot = s }) ≡ o
-    → extended codes cs is s n ≡ then_place o (λ r. Some (record { cells = r.cells; index = set r.index n r.spot }))
+    → extended codes cs is s n ≡ onward o (λ r. Some (record { cells = r.cells; index = set r.index n r.spot }))
 extended_is [] cs is s n o some e = absurd (omega arith)
-extended_is (a ∷ more) cs is s n o some e = ap (λ x. then_place x (λ r. Some (record { cells = r.cells; index = set r.index n r.spot }))) e
+extended_is (a ∷ more) cs is s n o some e = ap (λ x. onward x (λ r. Some (record { cells = r.cells; index = set r.index n r.spot }))) e
 
 -- the parents in a tree are cells
 pub tree_parents : (cs : List Cell) → Tree cs → 0 < length cs → Parented cs

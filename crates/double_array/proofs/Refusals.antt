@@ -5,7 +5,8 @@ use Rattle.std.proofs.lemmas.List.{get_or_push}
 use Rattle.std.proofs.lemmas.Bool.{cond-true, cond-false, and_from, and_left, and_right, and_parts, not_from_true, not_from_false, ltb-true, le-ltb}
 use Rattle.cells.specs.declared.Cell.{Cell}
 use Rattle.cells.specs.Cells.{base_of, is_free, is_leaf, child, child_codes, some_code, all_codes}
-use Rattle.cells.specs.Placing.{Arrays, Lowest, lowest, placed_at, place, then_place, grow, extend, found_or, enter_from, enter}
+use Rattle.cells.specs.Placing.{Arrays, Lowest, lowest, placed_at, place, grow, extend, found_or, enter_from, enter}
+use Rattle.cells.specs.Walking.{onward}
 use Rattle.cells.proofs.Lowests.{lowest_holds}
 use Rattle.cells.proofs.Sounds.{short_root, short_child}
 use Rattle.double_array.specs.declared.faults.PathFault.{PathFault}
@@ -74,7 +75,7 @@ module _ (cs : List Cell) (is : List ℕ) (few : length cs < 2) where
 
   grow_short : (more : List ℕ) (s a : ℕ) (z : ℤ) → 0 < a → grow more cs is s a z ≡ None
   grow_short [] s a z some = place_short s a z some
-  grow_short (b ∷ more) s a z some = ap (λ o. then_place o (λ r. grow more r.cells r.index r.spot b z)) (place_short s a (pos 0) some)
+  grow_short (b ∷ more) s a z some = ap (λ o. onward o (λ r. grow more r.cells r.index r.spot b z)) (place_short s a (pos 0) some)
 
   inner_short : is_leaf cs 1 ≡ false
   inner_short = ap (λ c. lt_z c.base (pos 0)) (short_root cs few)
@@ -92,7 +93,7 @@ module _ (cs : List Cell) (is : List ℕ) (few : length cs < 2) where
       let some : 0 < a = ltb-true 0 a (and_parts _ _ (and_parts _ _ c).0).0 in
       ap (λ o. found_or o (cond (is_leaf cs 1) None (extend more cs is 1 a n)) (λ t. enter_from cs is t more n)) (short_child cs few a)
       ∙ cond-false (is_leaf cs 1) None _ inner_short
-      ∙ ap (λ o. then_place o (λ r. Some (record { cells = r.cells; index = set r.index n r.spot }))) (grow_short more 1 a (negsuc n) some)
+      ∙ ap (λ o. onward o (λ r. Some (record { cells = r.cells; index = set r.index n r.spot }))) (grow_short more 1 a (negsuc n) some)
 
   pub short_none : (p : List ℕ) (n : ℕ) → all_codes p ≡ true → enter cs is p n ≡ None
   short_none p n c = cond-true (all_codes p) (enter_from cs is 1 p n) None c ∙ enter_short p n c

@@ -2,7 +2,8 @@
 use Rattle.std.proofs.Common.{◌≡◌, ℕ, ◌+◌, Bool, true, false, cond, ◌&&◌, List, [], ◌∷◌, ◌++◌, set, ℤ, pos, negsuc, is_some, Some, None, Option, sym, refl, ◌∙◌}
 use Rattle.cells.specs.declared.Cell.{Cell}
 use Rattle.cells.specs.Cells.{base_of, is_free, is_leaf, child, child_codes, some_code, all_codes}
-use Rattle.cells.specs.Placing.{Arrays, Spot, lowest, placed_at, place, then_place, grow, extend, found_or, enter_from, enter}
+use Rattle.cells.specs.Placing.{Arrays, Spot, lowest, placed_at, place, grow, extend, found_or, enter_from, enter}
+use Rattle.cells.specs.Walking.{onward}
 
 cond_any : {X : Type 0} (b : Bool) (x y u v : Option X) → is_some x ≡ is_some y → is_some u ≡ is_some v → is_some (cond b x u) ≡ is_some (cond b y v)
 cond_any true x y u v e f = e
@@ -17,7 +18,7 @@ place_any cs is s a z y =
     cond_any (some_code (child_codes cs s) && is_free cs (base_of cs s + a)) _ _ _ _ refl
     (placed_any cs is s (child_codes cs s) a z y (lowest cs (child_codes cs s ++ a ∷ [])))
 
-then_any : {X : Type 0} (o : Option Spot) (f g : Spot → Option X) → ((r : Spot) → is_some (f r) ≡ is_some (g r)) → is_some (then_place o f) ≡ is_some (then_place o g)
+then_any : {X : Type 0} (o : Option Spot) (f g : Spot → Option X) → ((r : Spot) → is_some (f r) ≡ is_some (g r)) → is_some (onward o f) ≡ is_some (onward o g)
 then_any None f g h = refl
 then_any (Some r) f g h = h r
 
@@ -25,7 +26,7 @@ grow_any : (more : List ℕ) (cs : List Cell) (is : List ℕ) (s a : ℕ) (z y :
 grow_any [] cs is s a z y = place_any cs is s a z y
 grow_any (b ∷ more) cs is s a z y = then_any (place cs is s a (pos 0)) _ _ (λ r. grow_any more r.cells r.index r.spot b z y)
 
-then_some : (o : Option Spot) (n : ℕ) → is_some {T = Arrays} (then_place o (λ r. Some (record { cells = r.cells; index = set r.index n r.spot }))) ≡ is_some o
+then_some : (o : Option Spot) (n : ℕ) → is_some {T = Arrays} (onward o (λ r. Some (record { cells = r.cells; index = set r.index n r.spot }))) ≡ is_some o
 then_some None n = refl
 then_some (Some r) n = refl
 

@@ -2,7 +2,8 @@ use Rattle.std.proofs.Common.{◌≡◌, ℕ, ◌+◌, ◌-◌, ◌<◌, List, l
 use Rattle.std.proofs.lemmas.Int.{to_z-of_z}
 use Rattle.cells.specs.declared.Cell.{Cell}
 use Rattle.cells.specs.Cells.{child_codes}
-use Rattle.cells.specs.Placing.{Spot, Arrays, place, then_place, freed_up, undo}
+use Rattle.cells.specs.Placing.{Spot, Arrays, place, freed_up, undo}
+use Rattle.cells.specs.Walking.{onward}
 use Rattle.double_array.specs.Outcomes.{Parented}
 use Rattle.double_array.proofs.Buffers.{kept_on}
 use Rattle.double_array.proofs.Growing.{Undoable, grow_on, step_base, step_more, step_last, grow_next, grow_more, extended_is, undoable}
@@ -27,7 +28,7 @@ module _ (c : goal.After-give_child) where
   ]
 
   next : (o : Option Spot) → place so_far.cells so_far.index so_far.spot (get_or c.args.codes.now c.loop-i.i 0) given ≡ o
-      → then_place o (grow_on (drop (c.loop-i.i + 1) c.args.codes.now) leaf) ≡ grow_on c.args.codes.now leaf (record { cells = c.args.self.now.cells.items; index = c.args.self.now.index.items; spot = c.args.s })
+      → onward o (grow_on (drop (c.loop-i.i + 1) c.args.codes.now) leaf) ≡ grow_on c.args.codes.now leaf (record { cells = c.args.self.now.cells.items; index = c.args.self.now.index.items; spot = c.args.s })
   next o e = grow_next c.args.codes.now c.loop-i.i leaf so_far _ c.loop-i-test.true base o e ∙ c.loop-i.invariant.1
 
   way : Undoable c.args.self.now.cells.items c.args.self.now.index.items c.args.s c.loop-i.i so_far
