@@ -1,21 +1,17 @@
 -- What the law says to a caller that reads by a number that it was handed.
-use Rattle.std.proofs.Common.{◌≡◌, ℕ, Bool, true, false, not, List, [], ◌∷◌, Some, Ok, Err, Option, Result, IfOk, sym, refl, ap, ◌∙◌, subst, inl, inr, ⊎_elim}
-use Rattle.std.specs.Option.{unwrap_or}
+use Rattle.std.proofs.Common.{◌≡◌, ℕ, false, not, List, [], ◌∷◌, Ok, Err, Result, IfOk, sym, refl, ap, ◌∙◌, subst, inl, inr, ⊎_elim}
 use Rattle.std.proofs.lemmas.Bool.{cases_Bool}
 use Rattle.refusal.specs.declared.Refusal.{Refusal}
 use Rattle.members.specs.Lists.{In}
 use Rattle.members.proofs.Pigeons.{in_kept}
-use Rattle.link_table.specs.declared.triple.Triple.{Triple}
 use Rattle.link_table.specs.declared.table.LinkTable.{LinkTable}
-use Rattle.listing.specs.declared.row.LinkRow.{LinkRow}
 use Rattle.history.specs.declared.replies.Link.{Link}
 use Rattle.history.specs.declared.replies.Reading.{Reading}
-use Rattle.history.specs.declared.replies.Reply.{Reply}
 use Rattle.history.specs.declared.replies.Reply.TheVariants.{Linked, Deleted}
-use Rattle.history.specs.Kits.{Kit, Growth, State, state_of, number_in, triple_in}
+use Rattle.history.specs.Kits.{Kit, Growth, State, state_of}
 use Rattle.history.specs.Calls.{Adds, Ties, Deletes, read_of, add, tie, delete, replied}
 use Rattle.history.specs.Runs.{PresentTriple, present_triple, event_of, History, present, put_in, handed_by, same_triple, Reached}
-use Rattle.history.specs.Laws.{Law, Answers}
+use Rattle.history.specs.Laws.{Law}
 use Rattle.history.proofs.Onwards.{onward}
 use Rattle.uses.specs.Evidence.{IsOwnReading}
 
@@ -86,7 +82,5 @@ module _ {S L R : Type 0} (K : Kit S L R) (G : Growth L) where
     unfolding mine last
     read_back n e =
         let a = after_four.1.answers mine present_last in
-        let same : ◌≡◌ {A = Triple} (record { x = a.a; relation = q; y = a.b }) (triple_in K s3.list x y q) =
-        sym (ap (λ (o : Option ℕ). record { x = unwrap_or o 0; relation = q; y = unwrap_or (number_in K s3.list y) 0 }) a.x_number
-        ∙ ap (λ (o : Option ℕ). record { x = a.a; relation = q; y = unwrap_or o 0 }) a.y_number) in
-        subst (λ (k : Result (Reading R) Refusal). IfOk k (IsOwnReading K s3.list x y q r)) (sym (e ∙ a.read)) (record { triple = same; kept = refl })
+        subst (λ (k : Result (Reading R) Refusal). IfOk k (IsOwnReading K s3.list x y q r)) (sym (e ∙ a.read))
+        (record { x_number = a.x_number; y_number = a.y_number; relation = refl; kept = refl })

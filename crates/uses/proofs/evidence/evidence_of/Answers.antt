@@ -1,5 +1,4 @@
 use Rattle.history.specs.Kits.{kit_of}
-use Rattle.uses.specs.Evidence.{IsOwnReading}
 use Rattle.uses.proofs.Readings.{read_back}
 use Rattle.uses.proofs.evidence.evidence_of.Goals as goal
 
