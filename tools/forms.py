@@ -4,7 +4,7 @@
     python3 tools/forms.py [TREE]         every list, each with its count
     python3 tools/forms.py [TREE] NAME    one list
 
-TREE is a checkout; the default is the one that this file stands in. docs/DESIGN-PASS.md says what
+TREE is a checkout; the default is the one that this file stands in. docs/record/DESIGN-PASS.md says what
 became of each place."""
 import collections, difflib, glob, os, re, sys
 

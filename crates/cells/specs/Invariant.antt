@@ -1,5 +1,5 @@
 -- What holds of the cells and the index between operations. All of it is one proposition, which the struct that owns them carries.
--- An array of fewer than two cells has no cell in use: Reachable says so.
+-- That an array of fewer than two cells has none in use follows from Reachable; `Short` of Laws names it.
 use Rattle.std.specs.Prelude.{◌≡◌, ℕ, ◌<◌, true, ◌||◌, List, [], length, pos, ◌≢◌}
 use Rattle.cells.specs.declared.Cell.{Cell}
 use Rattle.cells.specs.Cells.{free_cell, at, parent, is_leaf, child_codes, some_code}
@@ -10,7 +10,7 @@ use Rattle.cells.specs.Index.{Leads, Entered}
 abbrev pub Rooted : List Cell → Type 0
 Rooted cs = 1 < length cs → (at cs 1).check ≡ pos 1
 
--- a root without children has the BASE 1
+-- while no edge leads from the root, its BASE is 1
 abbrev pub Bare : List Cell → Type 0
 Bare cs = 1 < length cs → child_codes cs 1 ≡ [] → (at cs 1).base ≡ pos 1
 

@@ -11,7 +11,10 @@ ghost use Rattle.lexicon.specs.Rolls.{Lawful};
 ghost use Rattle.script.specs.Words.{spelled};
 ghost use Rattle.entry.specs.Entries.{entry_answer, is_new_word, KeepsNumbers, labels_at, label_total, line_of, asked_of, reply_of, reply_text};
 
+mod meanings;
+
 use lexicon::{GrowingList, ReadableList};
+pub use meanings::meaning;
 use refusal::{Refusal, Report};
 use script::{Script, spell_word};
 use std::fmt;

@@ -52,7 +52,7 @@ module _ {S L R : Type 0} (K : Kit S L R) where
   abbrev pub refusal_of_sought : L → LinkTable → List S → List S → ℕ → Option Refusal
   refusal_of_sought l t x y q = first (sought_refusals x y q (number_in K l x) (number_in K l y) (held_in l t x y q))
 
-  -- a new triple has the link number u, one from 1 to m that no present triple has; which of them is open.
+  -- a new triple gets one of the free numbers from 1 to m, u; the rule leaves open which.
   -- The table is what the placing rule leaves, and the record stands at its number
   pub record LinkMade (s : State L R) (x y : List S) (q : ℕ) (r : R) (n : Result Link Refusal) (t : State L R) : Type 0 where
     pub u : ℕ
@@ -83,7 +83,7 @@ module _ {S L R : Type 0} (K : Kit S L R) where
   abbrev pub refusal_of_add : Growth L → L → L → L → LinkTable → List S → List S → ℕ → R → Option Refusal
   refusal_of_add G l mid last t x y q r = first (add_refusals x y q (K.good r) (lacks G l x) (lacks G mid y) (links_in last t x y q))
 
-  -- add: X is entered, then Y, then the triple. Words that were entered before a refusal stay
+  -- add: first X goes into the list, next Y, and last their triple into the table. A refusal takes no word back
   pub record Adds (G : Growth L) (s : State L R) (x y : List S) (q : ℕ) (r : R) (n : Result Link Refusal) (t : State L R) : Type 0 where
     -- the list after X, and after Y
     pub mid : L
@@ -106,7 +106,7 @@ module _ {S L R : Type 0} (K : Kit S L R) where
   abbrev pub find_of : L → LinkTable → List S → List S → ℕ → Result (Option Link) Refusal
   find_of l t x y q = answered (first (word_refusals x y q)) (link_by (number_in K l x) (number_in K l y) (found t (triple_in K l x y q)))
 
-  -- change: the record is written at its link number, and nothing else
+  -- change: of the records that of the number is another then, and all else is the same
   abbrev pub refusal_of_change : LinkTable → ℕ → R → Option Refusal
   refusal_of_change t u r = first (change_refusals (is_some (coded t u)) (K.good r))
 
@@ -132,7 +132,7 @@ read_by (Some t) (Some r) = Ok (record { triple = t; «record» = r })
 abbrev pub read_of : {R : Type 0} → LinkTable → List R → ℕ → Result (Reading R) Refusal
 read_of t rs u = read_by (coded t u) (slice_get rs (u - 1))
 
--- figures: how many triples are present and how many cells are in use; nothing changes
+-- figures: the present triples and the link cells in use, both counted; nothing changes
 abbrev pub figures_of : LinkTable → FigurePair
 figures_of t = record { triples = length (numbers t); cells = in_use (cells_of t.array) }
 

@@ -23,7 +23,7 @@ event_of c n = record { call = c; answer = n }
 abbrev pub History : Type 0 → Type 0 → Type 0
 History S R = List (Event S R)
 
--- a present triple with its link number and the record last written
+-- a triple that is present after a history: its words and relation, its number, and the record that it has by then
 pub record PresentTriple (S R : Type 0) : Type 0 where
   pub x : List S
   pub y : List S

@@ -36,7 +36,7 @@ pub trait ReadableList {
         ensures lawful { Lawful (roll self.now) };
 
     // The number of a spelled word, or none where the list lacks it.
-    // A spelling of no label or of more than 128 is refused.
+    // Refused: an empty row of labels, and one of more than 128.
     fn find(&self, word: &[u8]) -> Result<Option<u16>, ListFault>
         ensures { result ≡ find_answer (roll self.now) word.now };
 
@@ -56,8 +56,8 @@ pub trait GrowingList: ReadableList {
     ghost enters: { Self → List ℕ → Self → Type 0 };
 
     // Enters a spelled word and answers its number: the one that it has, or else the next, as it is put
-    // at the end of the roll. A spelling of no label or of more than 128 is refused, then a new word
-    // for which there is no room; unless a new word is entered, the list stays as it was.
+    // at the end of the roll. Refused, in this order: an empty row of labels or one of more than 128, a new
+    // word without room; unless a new word is entered, the list stays as it was.
     fn enter(&mut self, word: &[u8]) -> Result<u16, ListFault>
         ensures answer { result ≡ enter_answer (Self.roll self.old) (room self.old word.now) word.now }
         ensures after { EnterLeaves Self.roll enters self.old word.now self.new

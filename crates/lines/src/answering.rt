@@ -19,8 +19,7 @@ use share::{count_at, share};
 use store::RelationTable;
 use trie_list::TrieList;
 
-// The list, the table and the records are handed on side by side, here and below: a store is no
-// value of its own, and a call takes what it needs of the three.
+// List, table and records are three parameters, here and below: a rule of the project.
 
 // Makes a call that is only said to be done.
 fn done(

@@ -39,8 +39,8 @@ fn answer_line(
 }
 
 // Carries out one line, given without its line feed: writes what is to be printed to `out` from its
-// start, and answers how many bytes that are; the rest of `out` stays. An output of fewer than 4,096
-// bytes is refused first, and nothing is done. Every other refusal is printed.
+// start, and answers how many bytes that are; the rest of `out` stays. Before anything is done, an
+// `out` shorter than 4,096 bytes is refused. Every other refusal is printed.
 pub fn perform_line(
     table: &mut RelationTable,
     list: &mut TrieList,

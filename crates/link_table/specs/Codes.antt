@@ -1,11 +1,11 @@
--- Triples as paths: the code of a triple, five labels.
+-- Triples as paths: how a triple is coded in labels.
 use Rattle.std.specs.Prelude.{◌≡◌, ℕ, ◌+◌, ◌-◌, ◌*◌, ◌/◌, ◌%◌, Bool, true, ◌&&◌, List, [], ◌∷◌, length, is_some, ◌==◌, nat_le, slice_index}
 use Rattle.cells.specs.declared.Cell.{Cell}
 use Rattle.cells.specs.Cells.{path_of_labels}
 use Rattle.cells.specs.Walking.{number_at}
 use Rattle.link_table.specs.declared.triple.Triple.{Triple}
 
--- the code of a triple: upper and lower byte of x, the relation, upper and lower byte of y
+-- the code of a triple: the relation between the two bytes of x and the two of y, each number's upper byte first
 abbrev pub code_of : Triple → List ℕ
 code_of t = (t.x / 256) ∷ (t.x % 256) ∷ t.relation ∷ (t.y / 256) ∷ (t.y % 256) ∷ []
 

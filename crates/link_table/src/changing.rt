@@ -28,7 +28,7 @@ impl LinkTable {
         }
     }
 
-    // Enters a new triple with a link number that no present triple has, and answers the number.
+    // Enters a new triple under a number that is free, and answers the number.
     // Refused, in this order: the triple is present, all numbers are held, its code has no place.
     pub fn put(&mut self, triple: Triple) -> Result<u32, LinkFault>
         ensures { Puts self.old triple result self.new }

@@ -6,8 +6,8 @@ ghost use Rattle.link_table.specs.Codes.{path_of_triple, triple_of, is_triple_pa
 use super::triple::Triple;
 use double_array::{label_code, label_of};
 
-// The path of the triple: the codes of five labels, upper and lower byte of x, the relation, upper and
-// lower byte of y.
+// The path of the triple: a code for each of its five labels, which are the two bytes of x, the relation and the
+// two bytes of y, with the upper byte of a number first.
 pub(super) fn write_code(triple: Triple) -> [u16; 5]
     ensures path { result ≡ path_of_triple triple }
     ensures codes { all_codes (path_of_triple triple) ≡ true }

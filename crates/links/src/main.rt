@@ -1,6 +1,6 @@
 // links: carries out the lines of the standard input in a store of tallies, and prints the answers.
 //
-// A line ends with a line feed; what stands after the last feed is ignored. docs/LINES.md has the
+// Each line is ended by its feed, and bytes without one at the end are not carried out. docs/LINES.md has the
 // commands and the answers. The program only reads lines and writes what `perform_line` says.
 #![tactic(auto)]
 

@@ -17,10 +17,10 @@ pub use row::LinkRow;
 use writing::WordLinks;
 pub use writing::list_upper;
 
-// Writes the relation, the second word's number and the link number of every present triple of the
-// word number x with the relation given, 0 for all from 1 to 255, into `out` from its start, by relation
-// and then by number, and answers how many there are. Where `out` is too short it answers none, and
-// nothing is written.
+// Fills the first places of `out` with a row for each present triple that begins with the word number x and
+// has the relation asked for, which 0 stands for all from 1 to 255, and answers how many rows these are.
+// Rows rise by their relation, and those of one relation by the second word's number. An `out` with fewer
+// places stays as it is, and the answer is none.
 pub fn list_links(table: &LinkTable, x: u16, relation: u8, out: &mut [LinkRow]) -> Option<usize>
     ensures output { Filled (rows_of table.now x relation) out.old result out.new }
     ensures members { Members table.now x relation (rows_of table.now x relation) }

@@ -1,5 +1,5 @@
-// The plain list: a growing list that keeps its spellings end to end in one array of bytes, beside
-// an array of their lengths.
+// The plain list: a growing list in two arrays of bytes. One has the labels of all its words without a gap,
+// the other how many labels each word has.
 //
 // This crate knows bytes and lengths, and nothing of cells, scripts or links.
 // The rules stand in docs/WORD_LISTS.md, "The plain list".

@@ -9,8 +9,11 @@ ghost use Rattle.std.specs.Prelude.{◌≡◌, Some};
 ghost use Rattle.refusal.specs.declared.Side.TheVariants.{Neither};
 ghost use Rattle.refusal.specs.Reports.{report_of, report_text, side_text, spell_refusal, list_refusal, link_refusal};
 
+mod meanings;
+
 use lexicon::ListFault;
 use link_table::LinkFault;
+pub use meanings::meaning;
 use script::SpellFault;
 use std::fmt;
 use thiserror::Error;

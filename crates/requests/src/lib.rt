@@ -6,8 +6,10 @@
 // the law holds after this call too. The rules stand in docs/STORE.md, the law in docs/LAW.md.
 #![tactic(auto)]
 
+mod meanings;
 mod performing;
 mod request;
 
+pub use meanings::meaning;
 pub use performing::{perform, perform_growing};
 pub use request::{GrowingRequest, Request};

@@ -4,7 +4,7 @@ use Rattle.std.specs.List.{flat_map}
 use Rattle.script.specs.declared.SpellFault.{SpellFault}
 use Rattle.script.specs.declared.SpellFault.TheVariants.{WordLength}
 
--- a word has 1 to 32 symbols
+-- whether a row of symbols is a word: 1 to 32 of them
 abbrev pub word_sized : {S : Type 0} → List S → Bool
 word_sized word = nat_le 1 (length word) && nat_le (length word) 32
 

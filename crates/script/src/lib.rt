@@ -18,10 +18,10 @@ mod meanings;
 mod word_triple;
 
 pub use alphabets::{MorphemeClass, MorphemeSign};
-pub use meanings::meaning;
+pub use meanings::{meaning, meaning_of_copies};
 pub use word_triple::WordTriple;
 
-// A script is told by the type of its symbols. Its meaning is the spelling of each symbol.
+// A script is told by the type of its symbols, and means the labels that each of them gets.
 pub trait Script {
     // In how many labels every symbol is spelled.
     ghost width: { ℕ };

@@ -1,7 +1,7 @@
 -- A share in millionths, and what rounding to the nearest means.
 use Rattle.std.specs.Prelude.{ℕ, ◌+◌, ◌-◌, ◌*◌, ◌/◌, ◌≤◌}
 
--- 1,000,000 * c / total, rounded to the nearest whole number, a half upward. It is 0 of the total 0, by which division gives 0
+-- so many millionths is c of the total, as a whole number: halfway between two it is the larger, and 0 of the total 0, by which division gives 0
 abbrev pub share_of : ℕ → ℕ → ℕ
 share_of c total = (2 * (1000000 * c) + total) / (2 * total)
 

@@ -17,10 +17,10 @@ use refusal::{Refusal, Side};
 use script::{Script, WordTriple};
 
 impl RelationTable {
-    // Enters X, then Y, then their triple with its record, and answers the numbers. Refused, in this
+    // Puts X into the list, next Y, and last their triple with its record, and answers the numbers. Refused, in this
     // order: X or Y has no symbol or more than 32, the relation is 0, the record is not sound, the
     // list has no room for X or for Y, the triple is present, all link numbers are held, its code
-    // has no place. Words that were entered before a refusal stay.
+    // has no place. A refusal takes no word back that is in by then.
     pub fn add<S: Script, L: GrowingList, R: Record>(
         &mut self,
         list: &mut L,
@@ -75,7 +75,7 @@ impl RelationTable {
         Ok(number)
     }
 
-    // Writes the record of a link number, and nothing else. Refused, in this order: no present triple
+    // Gives the triple of the number another record; all else stays. Refused, in this order: no present triple
     // has the number, the record is not sound.
     pub fn change<R: Record>(
         &mut self,

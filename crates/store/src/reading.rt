@@ -24,9 +24,8 @@ fn record_at<R: Record>(records: &[R], link: u32) -> Option<R>
 }
 
 impl RelationTable {
-    // The numbers of both words and of their link by the relation, or none where a word or the
-    // triple is absent. Refused, in this order: X or Y has no symbol or more than 32, the relation
-    // is 0.
+    // The numbers of both words and of their link by the relation; none if the list lacks one of the words, or
+    // the table the triple. Refused, in this order: X or Y has no symbol or more than 32, the relation is 0.
     pub fn find<S: Script, L: ReadableList>(
         &self,
         list: &L,

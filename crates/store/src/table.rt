@@ -2,8 +2,8 @@
 use link_table::LinkTable;
 use std::marker::Model;
 
-// The link table of a store, with the calls of the store as its methods. Each call takes what it
-// needs of the word list and of the records beside it.
+// The link table of a store, with the calls of the store as its methods. List and records are lent to the
+// calls that look at them.
 #[derive(Drop)]
 pub struct RelationTable {
     pub(super) links: LinkTable,

@@ -1,4 +1,4 @@
-// How much room the numbers below a cell take: a walk over cells and a walk over edges.
+// How much room the numbers below a cell take, by two functions in turn.
 //
 // That two walks call each other, with the codes left falling, is a rule of the project; so they hand on
 // the array, the cell and the codes left, here and in the walks that write.

@@ -10,7 +10,7 @@ use Rattle.trie_list.specs.declared.list.TrieList.{TrieList}
 pub record MeaningOfTrieList : Type 0 where
   -- the roll is read upward from the leaves of the numbers
   pub roll : (s : TrieList) → readable.roll s ≡ roll_of s
-  -- there is room exactly if an index place is left, and the placing rule finds every place of the word's path
+  -- a word has room if the index has an entry to spare and each code of the word's path gets a cell
   pub room : (s : TrieList) (word : List ℕ) → growing.room s word ≡ room_of s word
   -- after an entry cells and index are what the placing rule leaves
   pub enters : (s t : TrieList) (word : List ℕ) → growing.enters s word t ↔ Placed s word t

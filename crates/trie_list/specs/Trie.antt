@@ -43,7 +43,7 @@ pub record Placed (s : TrieList) (word : List ℕ) (t : TrieList) : Type 0 where
   pub arrays_after : enter (cells_of s.array) (index_of s.array) (path_of_word word) (length (roll_of s))
       ≡ Some (record { cells = cells_of t.array; index = index_of t.array })
 
--- a new word is entered where there is room, and is then the last of the roll; without room it is refused and nothing changes
+-- the roll of t ends with the new word if s had room for it, and else t is s and the fault is want of room
 abbrev pub Appends : TrieList → List ℕ → Result ℕ ListFault → TrieList → Type 0
 Appends s word (Ok number) t =
     (room_of s word ≡ true) × (number ≡ length (roll_of s) + 1) × Placed s word t × (roll_of t ≡ roll_of s ++ word ∷ [])

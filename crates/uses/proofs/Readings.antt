@@ -1,5 +1,5 @@
 -- What the law says to a caller that reads by a number that it was handed.
-use Rattle.std.proofs.Common.{◌≡◌, ℕ, false, not, List, [], ◌∷◌, Ok, Err, Result, IfOk, sym, refl, ap, ◌∙◌, subst, inl, inr, ⊎_elim}
+use Rattle.std.proofs.Common.{◌≡◌, ℕ, false, not, List, [], ◌∷◌, Ok, Err, Result, IfOk, IsOkAnd, sym, refl, ap, ◌∙◌, subst, inl, inr, ⊎_elim}
 use Rattle.std.proofs.lemmas.Bool.{cases_Bool}
 use Rattle.refusal.specs.declared.Refusal.{Refusal}
 use Rattle.members.specs.Lists.{In}
@@ -13,7 +13,8 @@ use Rattle.history.specs.Calls.{Adds, Ties, Deletes, read_of, add, tie, delete, 
 use Rattle.history.specs.Runs.{PresentTriple, present_triple, event_of, History, present, put_in, handed_by, same_triple, Reached}
 use Rattle.history.specs.Laws.{Law}
 use Rattle.history.proofs.Onwards.{onward}
-use Rattle.uses.specs.Evidence.{IsOwnReading}
+use Rattle.history.proofs.Runs.{law_of}
+use Rattle.uses.specs.Evidence.{IsOwnReading, ReadsItsOwn}
 
 module _ {S L R : Type 0} (K : Kit S L R) (G : Growth L) where
   -- an entry stays where another may be put in
@@ -84,3 +85,11 @@ module _ {S L R : Type 0} (K : Kit S L R) (G : Growth L) where
         let a = after_four.1.answers mine present_last in
         subst (λ (k : Result (Reading R) Refusal). IfOk k (IsOwnReading K s3.list x y q r)) (sym (e ∙ a.read))
         (record { x_number = a.x_number; y_number = a.y_number; relation = refl; kept = refl })
+
+-- what is read by the number of a present triple is its own
+pub reads_own : {S L R : Type 0} (K : Kit S L R) (s : State L R) (u : ℕ) (n : Result (Reading R) Refusal) → n ≡ read_of s.table s.records u → ReadsItsOwn K s u n
+reads_own K s u n e h run p i same =
+    let a = (law_of K run).answers p i in
+    subst (λ (k : Result (Reading _) Refusal). IsOkAnd k (IsOwnReading K s.list p.x p.y p.relation p.kept))
+    (sym (e ∙ ap (read_of s.table s.records) (sym same) ∙ a.read))
+    (record { x_number = a.x_number; y_number = a.y_number; relation = refl; kept = refl })

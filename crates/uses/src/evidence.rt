@@ -1,11 +1,12 @@
 // A caller that files evidence under a link number.
-ghost use Rattle.std.specs.Prelude.{IfOk};
-ghost use Rattle.history.specs.Kits.{kit_of};
-ghost use Rattle.uses.specs.Evidence.{IsOwnReading};
+ghost use Rattle.std.specs.Prelude.{◌≡◌, IfOk};
+ghost use Rattle.history.specs.Kits.{kit_of, state_of};
+ghost use Rattle.history.specs.Calls.{read_of};
+ghost use Rattle.uses.specs.Evidence.{IsOwnReading, ReadsItsOwn};
 
 use cells::Cell;
 use history::Reading;
-use lexicon::GrowingList;
+use lexicon::{GrowingList, ReadableList};
 use record::Record;
 use refusal::Refusal;
 use script::{Script, WordTriple};
@@ -34,4 +35,19 @@ pub fn evidence_of<S: Script, L: GrowingList, R: Record>(
     let _ = table.tie(list, records, pair, evidence);
     table.delete(list, other)?;
     table.read(records, link.number)
+}
+
+// What is filed under a number: read as `read` does. Whatever was done since the number was handed out, as
+// long as it was not taken back, the answer is of its own pair, with the record last written for it.
+pub fn evidence_at<S: Script, L: ReadableList, R: Record>(
+    table: &RelationTable,
+    _list: &L,
+    records: &[R],
+    link: u32,
+) -> Result<Reading<R>, Refusal>
+    ensures answer { result ≡ read_of table.now records.now link }
+    ensures own { ReadsItsOwn (kit_of S.Script L.ReadableList R.Record) (state_of _list.now table.now records.now)
+        link result }
+{
+    table.read(records, link)
 }

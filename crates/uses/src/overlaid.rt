@@ -1,7 +1,8 @@
 // A store over a list above another: every call leads every history on, and the law with it.
 ghost use Rattle.std.specs.Prelude.{[], length, vec_len};
 ghost use Rattle.link_table.specs.Tables.{IsNewTable};
-ghost use Rattle.history.specs.Kits.{kit_of, state_of};
+ghost use Rattle.history.specs.Kits.{kit_of, growth_of, state_of};
+ghost use Rattle.history.specs.Calls.{Steps};
 ghost use Rattle.history.specs.Runs.{Reached};
 ghost use Rattle.history.specs.Laws.{Law, Onward};
 ghost use Rattle.requests.specs.Requests.{growing_call_of};
@@ -41,7 +42,10 @@ pub fn perform_overlaid<'a, S: Script, L: ReadableList, U: GrowingList, R: Recor
     out: &mut [LinkRow],
     request: GrowingRequest<'a, S, R>,
 ) -> Result<Reply<R>, Refusal>
-    ensures { Onward (kit_of S.Script ⟦<Overlay<L, U> as ReadableList>⟧ R.Record)
+    ensures step { Steps (kit_of S.Script ⟦<Overlay<L, U> as ReadableList>⟧ R.Record)
+        (growth_of ⟦<Overlay<L, U> as GrowingList>⟧) (state_of list.old table.old records.old) out.old
+        (growing_call_of request.entry) result (state_of list.new table.new records.new) out.new }
+    ensures law { Onward (kit_of S.Script ⟦<Overlay<L, U> as ReadableList>⟧ R.Record)
         (state_of list.old table.old records.old) (growing_call_of request.entry) result
         (state_of list.new table.new records.new) }
 {

@@ -1,0 +1,26 @@
+-- What a refusal's parts mean to the library's interfaces: how a report is printed, and what a fault becomes by `?`.
+use Rattle.std.specs.Prelude.{◌≡◌, Some, ◌↔◌}
+use Rattle.script.specs.declared.SpellFault.{SpellFault}
+use Rattle.lexicon.specs.declared.ListFault.{ListFault}
+use Rattle.link_table.specs.declared.faults.LinkFault.{LinkFault}
+use Rattle.refusal.specs.declared.Side.{Side}
+use Rattle.refusal.specs.declared.Side.TheVariants.{Neither}
+use Rattle.refusal.specs.declared.Refusal.{Refusal}
+use Rattle.refusal.specs.declared.Report.{Report}
+use Rattle.refusal.specs.Reports.{report_text, side_text, spell_refusal, list_refusal, link_refusal}
+use Rattle.refusal.specs.contracts.ReportDisplay.TheImpl.{ghosts as reports}
+use Rattle.refusal.specs.contracts.SideDisplay.TheImpl.{ghosts as sides}
+use Rattle.refusal.specs.contracts.RefusalFromSpellFault.TheImpl.{ghosts as from_spelling}
+use Rattle.refusal.specs.contracts.RefusalFromListFault.TheImpl.{ghosts as from_list}
+use Rattle.refusal.specs.contracts.RefusalFromLinkFault.TheImpl.{ghosts as from_table}
+
+-- a report and a side are printed by their texts
+pub record Printed : Type 0 where
+  pub report : (r : Report) → reports.output r ≡ Some (report_text r)
+  pub side : (s : Side) → sides.output s ≡ Some (side_text s)
+
+-- a fault becomes the refusal of no side
+pub record PassedUp : Type 0 where
+  pub spelling : (f : SpellFault) (r : Refusal) → from_spelling.from_gives f r ↔ (r ≡ spell_refusal f Neither)
+  pub list : (f : ListFault) (r : Refusal) → from_list.from_gives f r ↔ (r ≡ list_refusal f Neither)
+  pub table : (f : LinkFault) (r : Refusal) → from_table.from_gives f r ↔ (r ≡ link_refusal f)
