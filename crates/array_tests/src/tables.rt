@@ -57,6 +57,23 @@ fn link_numbers_go_up_to_the_shorter(rt: HostRuntime) -> Result<(), Fail> {
     Ok(())
 }
 
+// Cells past 1,048,576 are given up, and none but the root is in use.
+#[test]
+fn cells_past_the_limit_are_given_up(rt: HostRuntime) -> Result<(), Fail> {
+    for (given, left) in [
+        (0, 0),
+        (1, 1),
+        (1_048_575, 1_048_575),
+        (1_048_576, 1_048_576),
+        (1_048_577, 1_048_576),
+    ] {
+        let links = made(rt.alloc(), given, 3, 3)?;
+        assert_eq!(rt; links.cells().len(), left);
+        assert_eq!(rt; links.in_use(), left.min(2) / 2);
+    }
+    Ok(())
+}
+
 #[test]
 fn link_numbers_past_the_limit_are_given_up(rt: HostRuntime) -> Result<(), Fail> {
     assert_eq!(rt;
