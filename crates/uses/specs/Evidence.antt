@@ -1,9 +1,12 @@
 -- What a caller reads by a link number that it was handed.
-use Rattle.std.specs.Prelude.{◌≡◌, ℕ, List, IsOkAnd, Some, Result}
+use Rattle.std.specs.Prelude.{◌≡◌, ℕ, List, IsOkAnd, Some, Ok, Err, Result}
 use Rattle.members.specs.Lists.{In}
 use Rattle.refusal.specs.declared.Refusal.{Refusal}
 use Rattle.history.specs.declared.replies.Reading.{Reading}
-use Rattle.history.specs.Kits.{Kit, State, number_in}
+use Rattle.history.specs.Kits.{Kit, Growth, State, number_in}
+use Rattle.link_table.specs.declared.table.LinkTable.{LinkTable}
+use Rattle.history.specs.declared.replies.Link.{Link}
+use Rattle.history.specs.Calls.{Adds, Ties, Deletes, read_of}
 use Rattle.history.specs.Runs.{History, PresentTriple, present, Reached}
 
 -- the reading is of the words x and y, by the numbers that the list has for them, and the relation q, and has the record r
@@ -19,3 +22,31 @@ abbrev pub ReadsItsOwn : {S L R : Type 0} → Kit S L R → State L R → ℕ �
 ReadsItsOwn {S} {L} {R} K s u n =
     (h : History S R) → Reached K h s → (e : PresentTriple S R) → In (present K h) e → e.link ≡ u
     → IsOkAnd n (IsOwnReading K s.list e.x e.y e.relation e.kept)
+
+-- a caller's run over a list, a table and records, with the pair (x, y, q), the other (x', y', q') and the record r: what it answers, n, and the
+-- list and the records that it leaves, l and rs
+module _ {S L R : Type 0} (K : Kit S L R) (G : Growth L) (x y : List S) (q : ℕ) (x' y' : List S) (q' : ℕ) (r : R) (n : Result (Reading R) Refusal) (l : L) (rs : List R) where
+  -- a call was refused so, and the state s is left
+  abbrev pub Stops : State L R → Refusal → Type 0
+  Stops s f = (n ≡ Err f) × (l ≡ s.list) × (rs ≡ s.records)
+
+  -- the other was deleted, or not: in the first case the number is read
+  abbrev pub AfterDelete : State L R → LinkTable → Link → Result ℕ Refusal → Type 0
+  AfterDelete s t link (Err f) = Stops s f
+  AfterDelete s t link (Ok u) = (n ≡ read_of t s.records link.number) × (l ≡ s.list) × (rs ≡ s.records)
+
+  -- the other was added, or not: in the first case the pair is asked for once more, whatever comes of it, and the other deleted
+  abbrev pub AfterOther : State L R → Link → Result Link Refusal → Type 0
+  AfterOther s link (Err f) = Stops s f
+  AfterOther s link (Ok other) =
+      (m : Result Link Refusal) × (t : State L R) × Ties K s x y q r m t
+      × (d : Result ℕ Refusal) × (u : LinkTable) × Deletes K t.list t.table x' y' q' d u × AfterDelete t u link d
+
+  -- the pair was added, or not: in the first case the other is added
+  abbrev pub AfterPair : State L R → Result Link Refusal → Type 0
+  AfterPair s (Err f) = Stops s f
+  AfterPair s (Ok link) = (m : Result Link Refusal) × (t : State L R) × Adds K G s x' y' q' r m t × AfterOther t link m
+
+  -- from the state s on
+  abbrev pub Runs : State L R → Type 0
+  Runs s = (m : Result Link Refusal) × (t : State L R) × Adds K G s x y q r m t × AfterPair t m
