@@ -140,7 +140,7 @@ fn three_codes_take_ten_cells(rt: HostRuntime) -> Result<(), Fail> {
     assert_eq!(rt; links.take(SECOND), Ok(2));
     assert_eq!(rt; links.take(SECOND), Err(LinkFault::TripleAbsent));
     assert_eq!(rt; links.in_use(), 7);
-    assert_eq!(rt; links.number_of(THIRD), Some(3));
+    assert_eq!(rt; links.link_number(THIRD), Some(3));
     assert_eq!(rt; links.count(), 2);
     Ok(())
 }
@@ -152,7 +152,7 @@ fn the_third_code_has_no_place(rt: HostRuntime) -> Result<(), Fail> {
     assert_eq!(rt; links.put(SECOND), Ok(2));
     assert_eq!(rt; links.put(THIRD), Err(LinkFault::NoPlace));
     assert_eq!(rt; links.in_use(), 9);
-    assert_eq!(rt; links.number_of(SECOND), Some(2));
+    assert_eq!(rt; links.link_number(SECOND), Some(2));
     assert_eq!(rt; links.limit(), 3);
     Ok(())
 }

@@ -9,7 +9,7 @@ use Rattle.cells.specs.Cells.{free_cell, nat, parent}
 use Rattle.members.specs.Lists.{In, Apart}
 use Rattle.cells.specs.Trees.{Edge, Reach, Held}
 use Rattle.cells.proofs.Trees.{Tree, Whole}
-use Rattle.cells.proofs.Begins.{Begins, Beginnings}
+use Rattle.cells.proofs.Begins.{HeldBelow, Beginnings}
 use Rattle.cells.specs.Counting.{used}
 use Rattle.cells.proofs.Paths.{reach_some, reach_same, root_apart, reach_unique, reach_used}
 use Rattle.members.proofs.Pigeons.{pigeons, in_counting, apart_counting, in_kept, from_kept, apart_kept}
@@ -67,7 +67,7 @@ module _ (cs : List Cell) (tree : Tree cs) where
 
   module _ (whole : Whole cs) where
     -- each path leads on to a leaf
-    pub extends : (k : ℕ) (p : List ℕ) (t : ℕ) → length cs ≤ length p + k → Reach cs p t → (t ≡ 1 → ⊥) → Begins cs p
+    pub extends : (k : ℕ) (p : List ℕ) (t : ℕ) → length cs ≤ length p + k → Reach cs p t → (t ≡ 1 → ⊥) → HeldBelow cs p
     extends zero p t far r ne = absurd (omega (arith, depth p t r, add-zero (length p)))
     extends (suc k) p t far r ne =
         ⊎_elim

@@ -8,7 +8,7 @@ use Rattle.cells.specs.Cells.{free_cell, at, base_of, parent, entry}
 use Rattle.cells.specs.Placing.{moved_list, moves, reindexed, index_moves, relocated, index_relocated}
 use Rattle.members.specs.Lists.{In, Apart}
 use Rattle.cells.specs.Trees.{Room}
-use Rattle.cells.specs.Index.{Leads, Entered}
+use Rattle.cells.specs.Index.{Leads, IndexLeads}
 use Rattle.cells.proofs.Trees.{Tree, NotLeaf, Family}
 use Rattle.cells.proofs.Changes.{Renames}
 use Rattle.cells.proofs.Basics.{not_leaf, leaf_same}
@@ -19,14 +19,14 @@ use Rattle.cells.proofs.Renamings.{own_root}
 -- the index is right: each leaf's number leads to it, and each entry but 0 is a leaf of its number
 pub record Indexed (cs : List Cell) (is : List ℕ) : Type 0 where
   pub leads : (t n : ℕ) → (at cs t).base ≡ negsuc n → n < length is → get_or is n 0 ≡ t
-  pub entered : Entered cs is
+  pub entered : IndexLeads cs is
 
 -- the same, as the invariant says it
 leaf_entry : (z : ℤ) → lt_z z (pos 0) ≡ true → z ≡ negsuc (entry z)
 leaf_entry (pos n) e = absurd (omega (arith, ltb-true n 0 e))
 leaf_entry (negsuc n) e = refl
 
-pub indexed_from : (cs : List Cell) (is : List ℕ) → Leads cs is → Entered cs is → Indexed cs is
+pub indexed_from : (cs : List Cell) (is : List ℕ) → Leads cs is → IndexLeads cs is → Indexed cs is
 indexed_from cs is l e = record {
   leads = λ t n b lt.
       subst (λ k. get_or is k 0 ≡ t) (ap entry b)
@@ -69,8 +69,8 @@ module _ (cs ds : List Cell) (x t : ℕ) (is : List ℕ) (hx : 0 < parent cs x) 
   leaf_went : (n : ℕ) → (at cs x).base ≡ negsuc n → (at ds t).base ≡ negsuc n
   leaf_went n b = ap (λ y. (at ds y).base) (sym (goes_there x t x refl)) ∙ ap (λ c. c.base) (r.there x hx) ∙ b
 
-  entered_z : (z : ℤ) → (at cs x).base ≡ z → Entered ds (reindexed is z t)
-  entered_z (pos k) bx = subst (Entered ds) (sym (reindexed_inner is k t)) (λ n h.
+  entered_z : (z : ℤ) → (at cs x).base ≡ z → IndexLeads ds (reindexed is z t)
+  entered_z (pos k) bx = subst (IndexLeads ds) (sym (reindexed_inner is k t)) (λ n h.
       leaf_stays (get_or is n 0) n
       (λ e. not_leaf k n (sym bx ∙ ap (λ y. (at cs y).base) (sym e) ∙ ix.entered n h)) (ix.entered n h))
   entered_z (negsuc k) bx = λ n h.

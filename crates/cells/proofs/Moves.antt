@@ -13,7 +13,7 @@ use Rattle.cells.proofs.Basics.{no_codes}
 use Rattle.cells.proofs.Paths.{reach_some}
 use Rattle.cells.proofs.Counts.{within}
 use Rattle.cells.proofs.Walks.{listing}
-use Rattle.cells.proofs.Relocations.{Steps, moves_all, moves_well}
+use Rattle.cells.proofs.Relocations.{FamilyMoved, moves_all, moves_well}
 use Rattle.cells.proofs.Returns.{edge_at, base_at, held_ahead, held_again, whole_at}
 use Rattle.cells.proofs.Leaves.{index_moved}
 use Rattle.cells.proofs.Families.{first_of, some_of, lone_codes}
@@ -36,7 +36,7 @@ module _ (cs : List Cell) (is : List ℕ) (s e : ℕ) (h : Tidy cs is) (used : 0
   leafless : NotLeaf cs s
   leafless n b = omega (arith, kid.2.inner, ap nat b)
 
-  m : Steps cs s e es
+  m : FamilyMoved cs s e es
   m = moves_all cs s codes e h.tree used low_e fam room
 
   tree_e : Tree es

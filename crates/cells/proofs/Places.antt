@@ -10,7 +10,7 @@ use Rattle.cells.proofs.Trees.{Tree, WholeBut, Family, Lone, NotLeaf}
 use Rattle.cells.proofs.Changes.{Shifts, Grown, Shrunk, Placed, Freed}
 use Rattle.cells.specs.Placing.{relocated, placed}
 use Rattle.cells.proofs.Paths.{edge_up, reach_some, reach_same, reach_unique, reach_used}
-use Rattle.cells.proofs.Relocations.{kind, Steps, moves_all}
+use Rattle.cells.proofs.Relocations.{kind, FamilyMoved, moves_all}
 use Rattle.cells.proofs.Returns.{well, stays, back_at, base_s, held_ahead, held_again, whole_at, returning}
 use Rattle.cells.proofs.Edits.{edge_kept, here, else, used_else, growing, here_f, else_f, shrinking}
 
@@ -79,7 +79,7 @@ module _ (cs : List Cell) (s a : ℕ) (q codes : List ℕ) (e : ℕ) (z : ℤ) (
   room_m : Room cs codes e
   room_m c i = room c (inr i)
 
-  pub m : Steps cs s e ms
+  pub m : FamilyMoved cs s e ms
   m = moves_all cs s codes e tree used low_e fam room_m
 
   low_m : base_of ms s ≡ e

@@ -6,7 +6,7 @@ use Rattle.cells.specs.declared.Cell.{Cell}
 use Rattle.cells.specs.Cells.{free_cell, at, nat, base_of, parent, child_codes, some_code}
 use Rattle.cells.specs.Pruning.{prune}
 use Rattle.cells.specs.Trees.{Edge, Reach, Held}
-use Rattle.cells.proofs.Trees.{Tree, Lone, Ends, WholeBut, Whole, Family}
+use Rattle.cells.proofs.Trees.{Tree, Lone, LeafOrParent, WholeBut, Whole, Family}
 use Rattle.cells.proofs.Changes.{Freed}
 use Rattle.cells.proofs.Paths.{edge_up, reach_some, reach_same, root_apart}
 use Rattle.cells.proofs.Walks.{listing}
@@ -51,10 +51,10 @@ module _ (cs : List Cell) (t a : ℕ) (q : List ℕ) (tree : Tree cs) (whole : W
   not_held p m h e = omega (arith, edge.inner, ap (base_of cs) (reach_same cs q h.0 s (subst (λ x. Reach cs x h.0) e h.1) above), ap nat h.2)
 
   -- the parent is the root, or has another child
-  stop : ((s ≡ 1 → ⊥) → Ends ds s) → Pruned cs ds (a ∷ q)
+  stop : ((s ≡ 1 → ⊥) → LeafOrParent ds s) → Pruned cs ds (a ∷ q)
   stop ends = record {
     tree = w.tree;
-    whole = λ j h one. ⊎_elim (λ same. subst (Ends ds) (sym same) (ends (λ e. one (same ∙ e)))) (λ ne. w.whole whole j h one ne) (cases_eq j s);
+    whole = λ j h one. ⊎_elim (λ same. subst (LeafOrParent ds) (sym same) (ends (λ e. one (same ∙ e)))) (λ ne. w.whole whole j h one ne) (cases_eq j s);
     held = w.held;
     held_again = w.held_again;
   }
@@ -83,26 +83,26 @@ pruning cs t (a ∷ b ∷ q) tree whole way ne lone =
     (λ z. omega (arith, ap length z)) (none_of ds s (child_codes ds s) fam e)))
 
 -- a cell stays or is freed
-abbrev Stays : List Cell → List Cell → ℕ → Type 0
-Stays cs xs j = (at xs j ≡ at cs j) ⊎ (at xs j ≡ free_cell)
+abbrev StaysOrFreed : List Cell → List Cell → ℕ → Type 0
+StaysOrFreed cs xs j = (at xs j ≡ at cs j) ⊎ (at xs j ≡ free_cell)
 
 freed_here : (cs : List Cell) (t : ℕ) → at (set cs t free_cell) t ≡ free_cell
 freed_here cs t =
     ⊎_elim (λ lt. get_or-set_same cs t free_cell free_cell lt) (λ ge. get_or_past (set cs t free_cell) t free_cell (omega (arith, length-set cs t free_cell)))
     (cases_lt t (length cs))
 
-freed_else : (cs : List Cell) (t j : ℕ) → Stays cs (set cs t free_cell) j
+freed_else : (cs : List Cell) (t j : ℕ) → StaysOrFreed cs (set cs t free_cell) j
 freed_else cs t j = ⊎_elim (λ e. inr (ap (at (set cs t free_cell)) e ∙ freed_here cs t)) (λ ne. inl (get_or-set_other cs t j free_cell free_cell ne)) (cases_eq j t)
 
-stays_on : (cs ds xs : List Cell) (j : ℕ) → Stays cs ds j → Stays ds xs j → Stays cs xs j
+stays_on : (cs ds xs : List Cell) (j : ℕ) → StaysOrFreed cs ds j → StaysOrFreed ds xs j → StaysOrFreed cs xs j
 stays_on cs ds xs j h (inl e) = ⊎_elim (λ k. inl (e ∙ k)) (λ k. inr (e ∙ k)) h
 stays_on cs ds xs j h (inr e) = inr e
 
-pub prune_stays : (n : ℕ) (cs : List Cell) (t j : ℕ) → Stays cs (prune n cs t) j
+pub prune_stays : (n : ℕ) (cs : List Cell) (t j : ℕ) → StaysOrFreed cs (prune n cs t) j
 prune_stays zero cs t j = inl refl
 prune_stays (suc n) cs t j =
     let ds : List Cell = set cs t free_cell in
-    cond_both (some_code (child_codes ds (parent cs t))) ds (prune n ds (parent cs t)) (λ l. Stays cs l j)
+    cond_both (some_code (child_codes ds (parent cs t))) ds (prune n ds (parent cs t)) (λ l. StaysOrFreed cs l j)
     (λ e. freed_else cs t j) (λ e. stays_on cs ds (prune n ds (parent cs t)) j (freed_else cs t j) (prune_stays n ds (parent cs t) j))
 
 pub prune_frees : (n : ℕ) (cs : List Cell) (t : ℕ) → at (prune (suc n) cs t) t ≡ free_cell

@@ -195,7 +195,7 @@ kind cs s u [] r = inr (λ e. r)
 kind cs s u (a ∷ p) r = ⊎_elim (λ e. inl (a, subst (λ x. Edge cs x a u) e r.2)) (λ ne. inr (λ e. absurd (ne (sym (edge_up cs r.0 a u r.2) ∙ e)))) (cases_eq r.0 s)
 
 -- a family has moved: each node has been moved, then s has its new base
-pub record Steps (cs : List Cell) (s e : ℕ) (es : List Cell) : Type 0 where
+pub record FamilyMoved (cs : List Cell) (s e : ℕ) (es : List Cell) : Type 0 where
   pub to : ℕ → ℕ
   pub mid : List Cell
   pub ren : Renames cs mid to
@@ -311,7 +311,7 @@ module _ (cs : List Cell) (s : ℕ) (codes : List ℕ) (e : ℕ) (tree : Tree cs
     else = λ j ne. get_or-set_other ds s j _ free_cell ne;
   }
 
-  pub moves_all : Steps cs s e (relocated cs s codes e)
+  pub moves_all : FamilyMoved cs s e (relocated cs s codes e)
   moves_all =
       let all = chain codes cs (λ u. u) (rename_none cs tree) begun fam.apart (λ c i. i) in
       let ds : List Cell = moves b e cs codes in

@@ -5,19 +5,19 @@ use Rattle.std.proofs.lemmas.Bool.{cases_eq}
 use Rattle.cells.specs.declared.Cell.{Cell}
 use Rattle.cells.specs.Cells.{free_cell, at, nat, base_of, parent}
 use Rattle.cells.specs.Trees.{Edge, Reach, Held, Room}
-use Rattle.cells.proofs.Trees.{Tree, Ends, WholeBut, Family, NotLeaf}
+use Rattle.cells.proofs.Trees.{Tree, LeafOrParent, WholeBut, Family, NotLeaf}
 use Rattle.cells.proofs.Changes.{Moved}
 use Rattle.cells.specs.Placing.{relocated}
 use Rattle.cells.proofs.Paths.{edge_up, reach_some, reach_same, root_apart, reach_used}
 use Rattle.cells.proofs.Counts.{within}
 use Rattle.cells.proofs.Renamings.{up_used, moving, s_stays, not_s, check_there, base_there, edge_there, back}
-use Rattle.cells.proofs.Relocations.{nat_is, kind, Steps, moves_all}
+use Rattle.cells.proofs.Relocations.{nat_is, kind, FamilyMoved, moves_all}
 
 cell_same : (c d : Cell) → c.base ≡ d.base → c.check ≡ d.check → c ≡ d
 cell_same c d p q = λ i. record { base = p i; check = q i }
 
 -- the facts of a move, under one hypothesis
-module _ (cs es : List Cell) (s e : ℕ) (tree : Tree cs) (used : 0 < parent cs s) (low_e : 0 < e) (m : Steps cs s e es) where
+module _ (cs es : List Cell) (s e : ℕ) (tree : Tree cs) (used : 0 < parent cs s) (low_e : 0 < e) (m : FamilyMoved cs s e es) where
   pub well : Moved cs es s e m.to
   well = moving cs m.mid es s e m.to tree used low_e m.ren m.reb m.shifts
 
@@ -66,14 +66,14 @@ module _ (cs es : List Cell) (s e : ℕ) (tree : Tree cs) (used : 0 < parent cs 
   pub whole_at : NotLeaf cs s → (o : ℕ) → 0 < parent cs o → WholeBut cs o → WholeBut es (m.to o)
   whole_at leafless o ho whole j h one open' =
       let k = back_at j h in
-      subst (Ends es) k.2
+      subst (LeafOrParent es) k.2
       (⊎_elim
       (λ leaf. inl (leaf.0, base_at k.0 k.1 (λ q. leafless leaf.0 (ap (λ x. (at cs x).base) (sym q) ∙ leaf.1)) ∙ leaf.1))
       (λ child. inr (child.0, m.to child.1, edge_at k.0 child.0 child.1 k.1 child.2))
       (whole k.0 k.1 (λ q. one (sym k.2 ∙ ap m.to q ∙ m.ren.root)) (λ q. open' (sym k.2 ∙ ap m.to q))))
 
 -- there and back
-module _ (cs es xs : List Cell) (s e : ℕ) (tree : Tree cs) (used : 0 < parent cs s) (low_e : 0 < e) (inner : 0 < base_of cs s) (m : Steps cs s e es) (n : Steps es s (base_of cs s) xs) where
+module _ (cs es xs : List Cell) (s e : ℕ) (tree : Tree cs) (used : 0 < parent cs s) (low_e : 0 < e) (inner : 0 < base_of cs s) (m : FamilyMoved cs s e es) (n : FamilyMoved es s (base_of cs s) xs) where
   tree_e : Tree es
   tree_e = (well cs es s e tree used low_e m).tree
 
@@ -133,7 +133,7 @@ module _ (cs : List Cell) (s : ℕ) (codes : List ℕ) (e : ℕ) (tree : Tree cs
   abbrev es : List Cell
   es = relocated cs s codes e
 
-  m : Steps cs s e es
+  m : FamilyMoved cs s e es
   m = moves_all cs s codes e tree used low_e fam room
 
   pub family_after : Family es s codes

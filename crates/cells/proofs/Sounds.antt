@@ -8,7 +8,7 @@ use Rattle.cells.specs.Cells.{free_cell, at, nat, base_of, parent, is_leaf, edge
 use Rattle.cells.specs.Walking.{cell_at, is_found, turned, path_to}
 use Rattle.cells.specs.Trees.{Reach}
 use Rattle.cells.specs.Invariant.{Sound}
-use Rattle.cells.proofs.Trees.{Tree, Ends, Whole, NotLeaf}
+use Rattle.cells.proofs.Trees.{Tree, LeafOrParent, Whole, NotLeaf}
 use Rattle.cells.proofs.Basics.{not_leaf, none_code}
 use Rattle.cells.proofs.Paths.{reach_some}
 use Rattle.cells.proofs.Walks.{listing}
@@ -45,7 +45,7 @@ module _ (cs : List Cell) (is : List ℕ) (h : Sound cs is) where
   whole_of : Whole cs
   whole_of t used ne =
       let w = reach_of t used in
-      ⊎_elim {C = Ends cs t}
+      ⊎_elim {C = LeafOrParent cs t}
       (λ leaf. inl (leaf_is (at cs t).base leaf))
       (λ some. inr (first_of cs t (child_codes cs t) (listing cs t (reach_some cs w.0 t w.1)) some))
       (or_cases (is_leaf cs t) (some_code (child_codes cs t)) (h.ended t used ne))

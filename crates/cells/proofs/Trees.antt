@@ -20,16 +20,16 @@ abbrev pub NotLeaf : List Cell → ℕ → Type 0
 NotLeaf cs s = (n : ℕ) → (at cs s).base ≢ negsuc n
 
 -- t is a leaf or has a child
-abbrev pub Ends : List Cell → ℕ → Type 0
-Ends cs t = ((n : ℕ) × ((at cs t).base ≡ negsuc n)) ⊎ ((a : ℕ) × (u : ℕ) × Edge cs t a u)
+abbrev pub LeafOrParent : List Cell → ℕ → Type 0
+LeafOrParent cs t = ((n : ℕ) × ((at cs t).base ≡ negsuc n)) ⊎ ((a : ℕ) × (u : ℕ) × Edge cs t a u)
 
 -- each node but the root, and but the open one, is a leaf or has a child
 abbrev pub WholeBut : List Cell → ℕ → Type 0
-WholeBut cs o = (t : ℕ) → 0 < parent cs t → (t ≢ 1) → (t ≢ o) → Ends cs t
+WholeBut cs o = (t : ℕ) → 0 < parent cs t → (t ≢ 1) → (t ≢ o) → LeafOrParent cs t
 
 -- each node but the root is a leaf or has a child
 abbrev pub Whole : List Cell → Type 0
-Whole cs = (t : ℕ) → 0 < parent cs t → (t ≢ 1) → Ends cs t
+Whole cs = (t : ℕ) → 0 < parent cs t → (t ≢ 1) → LeafOrParent cs t
 
 -- the codes of the children of s, each once
 pub record Family (cs : List Cell) (s : ℕ) (codes : List ℕ) : Type 0 where

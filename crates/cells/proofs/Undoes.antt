@@ -15,7 +15,7 @@ use Rattle.cells.proofs.Paths.{edge_up, reach_some, reach_used}
 use Rattle.cells.proofs.Counts.{within}
 use Rattle.cells.proofs.Walks.{Codes, child_edge, edge_child, listing}
 use Rattle.cells.proofs.Climbs.{codes_from}
-use Rattle.cells.proofs.Relocations.{nat_is, Steps, moves_all, moves_well}
+use Rattle.cells.proofs.Relocations.{nat_is, FamilyMoved, moves_all, moves_well}
 use Rattle.cells.proofs.Returns.{base_s, used_s, edge_s, family_after, room_after, returning}
 use Rattle.cells.proofs.Places.{free_m, long_m}
 use Rattle.cells.proofs.Leaves.{Indexed, index_moved, index_unique, length_index_moves}
@@ -126,7 +126,7 @@ steps_is [] m = omega arith
 steps_is (b ∷ more) m = omega (arith, steps_is more (suc m))
 
 -- the new cells of a path are freed from its tip up, and leave what stood before the first of them was written
-pub record Freed (cs : List Cell) (is : List ℕ) (s a : ℕ) (more : List ℕ) (r : Spot) : Type 0 where
+pub record FreedUp (cs : List Cell) (is : List ℕ) (s a : ℕ) (more : List ℕ) (r : Spot) : Type 0 where
   pub base : ℤ
   pub first : Spot
   pub way : Here cs is s a base first ⊎ There cs is s a base first
@@ -134,7 +134,7 @@ pub record Freed (cs : List Cell) (is : List ℕ) (s a : ℕ) (more : List ℕ) 
   pub freed : (m : ℕ) → freed_up (steps more m) r.cells r.spot ≡ freed_up m (mid_of cs is s a base first way) s
 
 -- the same where the node is new
-lone_freed : (fs : List Cell) (is : List ℕ) (t b : ℕ) (more : List ℕ) (r : Spot) → 0 < t → t < length fs → Lone fs t → Freed fs is t b more r → (m : ℕ) → freed_up (steps more (suc m)) r.cells r.spot ≡ freed_up (suc m) fs t
+lone_freed : (fs : List Cell) (is : List ℕ) (t b : ℕ) (more : List ℕ) (r : Spot) → 0 < t → t < length fs → Lone fs t → FreedUp fs is t b more r → (m : ℕ) → freed_up (steps more (suc m)) r.cells r.spot ≡ freed_up (suc m) fs t
 lone_freed fs is t b more r some fits lone k m = k.freed (suc m) ∙ by k.way
   where
     by : (w : Here fs is t b k.base k.first ⊎ There fs is t b k.base k.first) → freed_up (suc m) (mid_of fs is t b k.base k.first w) t ≡ freed_up (suc m) fs t
@@ -145,7 +145,7 @@ lone_freed fs is t b more r some fits lone k m = k.freed (suc m) ∙ by k.way
         ∙ ap (λ l. freed_up m l (parent (set fs t new) t)) (set-set fs t new free_cell)
         ∙ ap (λ c. freed_up m (set fs t free_cell) (nat c.check)) (get_or-set_same fs t new free_cell fits)
 
-pub grow_freed : (cs : List Cell) (is : List ℕ) (s a : ℕ) (q more : List ℕ) (z : ℤ) (r : Spot) → Tree cs → Reach cs q s → NotLeaf cs s → Codes (a ∷ more) → ((u : ℕ) → Edge cs s a u → ⊥) → grow more cs is s a z ≡ Some r → Freed cs is s a more r
+pub grow_freed : (cs : List Cell) (is : List ℕ) (s a : ℕ) (q more : List ℕ) (z : ℤ) (r : Spot) → Tree cs → Reach cs q s → NotLeaf cs s → Codes (a ∷ more) → ((u : ℕ) → Edge cs s a u → ⊥) → grow more cs is s a z ≡ Some r → FreedUp cs is s a more r
 grow_freed cs is s a q [] z r tree way leafless cds fresh e =
     let w = place_ways cs is s a z r e in
     record { base = z; first = r; way = w; index = refl; freed = λ m. freed_one cs is s a q z tree way cds.0.0 cds.0.1 leafless fresh r m w }
@@ -194,7 +194,7 @@ module _ (cs : List Cell) (is : List ℕ) (s e : ℕ) (h : Tidy cs is) (used : 0
   inner : 0 < base_of cs s
   inner = inner_base cs is h s used leafless
 
-  m : Steps cs s e ms
+  m : FamilyMoved cs s e ms
   m = moves_all cs s codes e h.tree used low_e fam_s room
 
   fam_m : Family ms s codes

@@ -8,5 +8,5 @@ abbrev pub Leads : List Cell → List ℕ → Type 0
 Leads cs is = (t : ℕ) → is_leaf cs t ≡ true → entry (at cs t).base < length is → slice_index is (entry (at cs t).base) ≡ t
 
 -- an entry that is not 0 is the cell of the leaf of its number
-abbrev pub Entered : List Cell → List ℕ → Type 0
-Entered cs is = (n : ℕ) → 0 < slice_index is n → (at cs (slice_index is n)).base ≡ negsuc n
+abbrev pub IndexLeads : List Cell → List ℕ → Type 0
+IndexLeads cs is = (n : ℕ) → 0 < slice_index is n → (at cs (slice_index is n)).base ≡ negsuc n

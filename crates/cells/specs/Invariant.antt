@@ -4,7 +4,7 @@ use Rattle.std.specs.Prelude.{◌≡◌, ℕ, ◌<◌, true, ◌||◌, List, [],
 use Rattle.cells.specs.declared.Cell.{Cell}
 use Rattle.cells.specs.Cells.{free_cell, at, parent, is_leaf, child_codes, some_code}
 use Rattle.cells.specs.Walking.{cell_at, is_found, path_to}
-use Rattle.cells.specs.Index.{Leads, Entered}
+use Rattle.cells.specs.Index.{Leads, IndexLeads}
 
 -- cell 1, if there is one, is the root
 abbrev pub Rooted : List Cell → Type 0
@@ -34,4 +34,4 @@ pub record Sound (cs : List Cell) (is : List ℕ) : Type 0 where
   pub reached : Reachable cs
   pub ended : Ended cs
   pub leads : Leads cs is
-  pub entered : Entered cs is
+  pub entered : IndexLeads cs is

@@ -6,7 +6,7 @@ use Rattle.std.proofs.lemmas.List.Elements.{All-nil, All-cons}
 use Rattle.command.specs.Fields.{fields}
 use Rattle.command.specs.Numbers.{number_read}
 use Rattle.command.specs.Commands.{Asked, add, tie, delete, find, share, list, letter, field, word_fields, pair_fields, count_fields, letter_asks, asked_by}
-use Rattle.command.specs.Lines.{tabbed, line_of, Tabless, Sound, Writes, OneToOne}
+use Rattle.command.specs.Lines.{tabbed, line_of, Tabless, Writable, Writes, OneToOne}
 use Rattle.command.proofs.Texts.{tabbed_fields, tabless_fields, fields_tabbed, tabless_decimal}
 use Rattle.command.proofs.Readings.{reads_back}
 
@@ -159,7 +159,7 @@ module _ (line : List ℕ) (l : ℕ) (fs : List (List ℕ)) (text : line ≡ l �
 
   by_count : (k : List ℕ → List ℕ → ℕ → ℕ → Asked) (n : ℕ)
       → ((x y : List ℕ) (q c : ℕ) → line_of (k x y q c) ≡ n ∷ tabbed (x ∷ (y ∷ (decimal q ∷ (decimal c ∷ [])))))
-      → ((x y : List ℕ) (q c : ℕ) → Tabless x × Tabless y × (q ≤ 255) × (c ≤ 4294967295) → Sound (k x y q c))
+      → ((x y : List ℕ) (q c : ℕ) → Tabless x × Tabless y × (q ≤ 255) × (c ≤ 4294967295) → Writable (k x y q c))
       → eqb l n ≡ true → option_map (λ (p : List ℕ × List ℕ × ℕ × ℕ). k p.0 p.1 p.2 p.3) (count_fields fs) ≡ Some a → Writes line a
   by_count k n lines sounds is found =
       let m = from_mapped (λ (p : List ℕ × List ℕ × ℕ × ℕ). k p.0 p.1 p.2 p.3) (count_fields fs) a found in
@@ -174,7 +174,7 @@ module _ (line : List ℕ) (l : ℕ) (fs : List (List ℕ)) (text : line ≡ l �
 
   by_pair : (k : List ℕ → List ℕ → ℕ → Asked) (n : ℕ)
       → ((x y : List ℕ) (q : ℕ) → line_of (k x y q) ≡ n ∷ tabbed (x ∷ (y ∷ (decimal q ∷ []))))
-      → ((x y : List ℕ) (q : ℕ) → Tabless x × Tabless y × (q ≤ 255) → Sound (k x y q))
+      → ((x y : List ℕ) (q : ℕ) → Tabless x × Tabless y × (q ≤ 255) → Writable (k x y q))
       → eqb l n ≡ true → option_map (λ (p : List ℕ × List ℕ × ℕ). k p.0 p.1 p.2) (pair_fields fs) ≡ Some a → Writes line a
   by_pair k n lines sounds is found =
       let m = from_mapped (λ (p : List ℕ × List ℕ × ℕ). k p.0 p.1 p.2) (pair_fields fs) a found in

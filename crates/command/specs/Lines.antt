@@ -21,18 +21,18 @@ abbrev pub Tabless : List ℕ → Type 0
 Tabless word = All (λ b. b ≢ 9) word
 
 -- the words have no tab, and the numbers are within their limits
-abbrev pub Sound : Asked → Type 0
-Sound (add x y q c) = Tabless x × Tabless y × (q ≤ 255) × (c ≤ 4294967295)
-Sound (tie x y q c) = Tabless x × Tabless y × (q ≤ 255) × (c ≤ 4294967295)
-Sound (delete x y q) = Tabless x × Tabless y × (q ≤ 255)
-Sound (find x y q) = Tabless x × Tabless y × (q ≤ 255)
-Sound (share x y q) = Tabless x × Tabless y × (q ≤ 255)
-Sound (list x q) = Tabless x × (q ≤ 255)
+abbrev pub Writable : Asked → Type 0
+Writable (add x y q c) = Tabless x × Tabless y × (q ≤ 255) × (c ≤ 4294967295)
+Writable (tie x y q c) = Tabless x × Tabless y × (q ≤ 255) × (c ≤ 4294967295)
+Writable (delete x y q) = Tabless x × Tabless y × (q ≤ 255)
+Writable (find x y q) = Tabless x × Tabless y × (q ≤ 255)
+Writable (share x y q) = Tabless x × Tabless y × (q ≤ 255)
+Writable (list x q) = Tabless x × (q ≤ 255)
 
 -- a line is the text of a sound command, and not too long
 pub record Writes (line : List ℕ) (asked : Asked) : Type 0 where
   pub text : line ≡ line_of asked
-  pub sound : Sound asked
+  pub sound : Writable asked
   pub short : length line ≤ 127
 
 -- a line asks for a command just where it is the text of that command

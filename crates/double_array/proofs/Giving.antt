@@ -51,8 +51,8 @@ module _ (cs : List Cell) (is : List ℕ) (s a : ℕ) where
         subst (λ x. b + x < length cs) (get_or_push codes a 0 (length codes) refl) (found.1 (length codes) (omega (arith, length-append codes (a ∷ [])))).0
 
 -- a cell that is written, as the code writes it
-pub written : (xs : List Cell) (is : List ℕ) (s t : ℕ) (z y k : ℤ) → y ≡ z → k ≡ pos s
+pub child_written : (xs : List Cell) (is : List ℕ) (s t : ℕ) (z y k : ℤ) → y ≡ z → k ≡ pos s
     → ◌≡◌ {A = Option Spot} (Some (record { cells = set xs t (record { base = z; check = pos s }); index = is; spot = t })) (Some (record { cells = set xs t (record { base = y; check = k }); index = is; spot = t }))
-written xs is s t z y k base check =
+child_written xs is s t z y k base check =
     ap (λ c. Some (record { cells = set xs t (record { base = z; check = c }); index = is; spot = t })) (sym check)
     ∙ ap (λ b. Some (record { cells = set xs t (record { base = b; check = k }); index = is; spot = t })) (sym base)

@@ -11,19 +11,19 @@ use Rattle.cells.proofs.Lowests.{lowest_holds}
 use Rattle.cells.proofs.Sounds.{short_root, short_child}
 use Rattle.double_array.specs.declared.faults.PathFault.{PathFault}
 use Rattle.double_array.specs.declared.faults.PathFault.TheVariants as fault
-use Rattle.double_array.specs.Entries.{Followed, follow, or_stop, is_path, is_open, is_unblocked, no_place, refusal, extended, EntersPath, Extended}
+use Rattle.double_array.specs.Entries.{Followed, follow, or_stop, is_path, is_open, is_unblocked, place_fault, refusal, extended, EntersPath, Extended}
 use Rattle.double_array.proofs.Giving.{some_yes, some_no}
 use Rattle.double_array.proofs.Follows.{stop}
 
 module _ (cs : List Cell) (is p : List ℕ) (u : ℕ) (path : is_path p ≡ true) (number : is_open is u ≡ true) where
-  judged : refusal cs is p u ≡ cond (is_unblocked cs p) (no_place (enter cs is p (u - 1))) (Some fault.Blocked)
+  judged : refusal cs is p u ≡ cond (is_unblocked cs p) (place_fault (enter cs is p (u - 1))) (Some fault.Blocked)
   judged = cond-true (is_path p) _ (Some fault.Path) path ∙ cond-true (is_open is u) _ (Some fault.Number) number
 
   pub blocked : is_unblocked cs p ≡ false → refusal cs is p u ≡ Some fault.Blocked
   blocked e = judged ∙ cond-false (is_unblocked cs p) _ _ e
 
-  pub judged_by : is_unblocked cs p ≡ true → (o : Option Arrays) → enter cs is p (u - 1) ≡ o → refusal cs is p u ≡ no_place o
-  judged_by e o placed = judged ∙ cond-true (is_unblocked cs p) _ _ e ∙ ap no_place placed
+  pub judged_by : is_unblocked cs p ≡ true → (o : Option Arrays) → enter cs is p (u - 1) ≡ o → refusal cs is p u ≡ place_fault o
+  judged_by e o placed = judged ∙ cond-true (is_unblocked cs p) _ _ e ∙ ap place_fault placed
 
   pub codes_of : all_codes p ≡ true
   codes_of = (and_parts _ _ path).1

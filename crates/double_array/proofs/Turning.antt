@@ -8,8 +8,8 @@ use Rattle.cells.specs.Cells.{free_cell, at, same_int}
 use Rattle.cells.specs.Placing.{repointed}
 
 -- what a cell holds once the children of f have the parent t
-abbrev pub turned : ℕ → ℕ → Cell → Cell
-turned f t c = cond (same_int c.check (pos f)) (record { base = c.base; check = pos t }) c
+abbrev pub reparented : ℕ → ℕ → Cell → Cell
+reparented f t c = cond (same_int c.check (pos f)) (record { base = c.base; check = pos t }) c
 
 module _ (cs : List Cell) (b f t a e : ℕ) (start : a ≡ min e (b + 1)) (end : e ≡ min (length cs) (b + 258)) (ys : List Cell) (j : ℕ) where
   abbrev part : List Cell
@@ -35,7 +35,7 @@ module _ (cs : List Cell) (b f t a e : ℕ) (start : a ≡ min e (b + 1)) (end :
       let same : j ≡ length (take a cs) + (j - a) = omega (arith, front) in
       ap (at after) same ∙ get_or-append-add (take a cs) (ys ++ rest) (j - a) free_cell
 
-  pub turned_is : length ys ≡ length part → ((k : ℕ) → k < length ys → at ys k ≡ turned f t (at part k)) → j < length cs → at after j ≡ repointed cs b f t 258 j
+  pub turned_is : length ys ≡ length part → ((k : ℕ) → k < length ys → at ys k ≡ reparented f t (at part k)) → j < length cs → at after j ≡ repointed cs b f t 258 j
   turned_is long each h =
       let size : length part ≡ e - a = length-take-le (e - a) (drop a cs) (omega (arith, length-drop a cs)) in
       ⊎_elim
@@ -46,7 +46,7 @@ module _ (cs : List Cell) (b f t a e : ℕ) (start : a ≡ min e (b + 1)) (end :
       let here : at part (j - a) ≡ at cs (a + (j - a)) = get_or-take (e - a) (drop a cs) (j - a) free_cell (omega arith) ∙ get_or-drop a cs (j - a) free_cell in
       let same : a + (j - a) ≡ j = omega arith in
       past high ∙ get_or_append_left ys rest free_cell (j - a) (omega (arith, long, size)) ∙ each (j - a) (omega (arith, long, size))
-      ∙ ap (turned f t) (here ∙ ap (at cs) same)
+      ∙ ap (reparented f t) (here ∙ ap (at cs) same)
       ∙ ap (λ w. cond (w && same_int (at cs j).check (pos f)) (record { base = (at cs j).base; check = pos t }) (at cs j))
       (sym (and_from _ _ (lt-ltb b j (omega arith)) (lt-ltb j (b + 258) (omega arith)))))
       (λ beyond.

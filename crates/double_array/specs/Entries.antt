@@ -36,14 +36,14 @@ abbrev pub is_unblocked : List Cell → List ℕ → Bool
 is_unblocked cs p = some_code (follow cs 1 p).rest && not (is_leaf cs (follow cs 1 p).node)
 
 -- there is no place where the entry has no outcome
-abbrev pub no_place : Option Arrays → Option PathFault
-no_place None = Some fault.NoPlace
-no_place (Some xs) = None
+abbrev pub place_fault : Option Arrays → Option PathFault
+place_fault None = Some fault.NoPlace
+place_fault (Some xs) = None
 
 -- the first refusal that applies to the path p and the number u
 abbrev pub refusal : List Cell → List ℕ → List ℕ → ℕ → Option PathFault
 refusal cs is p u =
-    cond (is_path p) (cond (is_open is u) (cond (is_unblocked cs p) (no_place (enter cs is p (u - 1))) (Some fault.Blocked)) (Some fault.Number)) (Some fault.Path)
+    cond (is_path p) (cond (is_open is u) (cond (is_unblocked cs p) (place_fault (enter cs is p (u - 1))) (Some fault.Blocked)) (Some fault.Number)) (Some fault.Path)
 
 -- the path was entered by the placing rule, or it was refused and nothing changes
 abbrev pub EntersPath : List Cell → List ℕ → List ℕ → ℕ → Result (Unit {0}) PathFault → List Cell → List ℕ → Type 0

@@ -13,12 +13,12 @@ use Rattle.lexicon.specs.Rolls.{label_sized, number_of}
 use Rattle.lexicon.specs.Answers.{held_or_next, enter_answer, is_new, EnterLeaves}
 use Rattle.lexicon.proofs.Numbers.{bounds_label, number_some, number_from_kept, number_from_last, number_from_only}
 use Rattle.entry.specs.declared.WordEntry.{WordEntry}
-use Rattle.entry.specs.declared.WordEntry.TheVariants.{New, Held}
+use Rattle.entry.specs.declared.WordEntry.TheVariants.{New, Known}
 use Rattle.entry.specs.Entries.{held_or_new, entry_answer, number_entered, KeepsNumbers}
 
 -- what the list's answer becomes, where the list had so many words before
 abbrev pub entry_from : ℕ → Result ℕ ListFault → Result WordEntry Refusal
-entry_from count (Ok number) = cond (ltb count number) (Ok (New number)) (Ok (Held number))
+entry_from count (Ok number) = cond (ltb count number) (Ok (New number)) (Ok (Known number))
 entry_from count (Err fault) = Err (list_refusal fault Neither)
 
 -- the list's roll after the call
@@ -35,9 +35,9 @@ module _ {S : Type 0} (spelling : S → List ℕ) (before : List (List ℕ)) (ro
   -- a held number is at most the count, a new one above it
   from_next : (o : Option ℕ) (b : Bool) → number_of before (spelled spelling word) ≡ o → entry_from (length before) (held_or_next o b (length before)) ≡ held_or_new o b (length before)
   from_next (Some n) b e =
-      cond-false (ltb (length before) n) (Ok (New n)) (Ok (Held n)) (le-ltb (length before) n (number_some before (spelled spelling word) n e).1)
+      cond-false (ltb (length before) n) (Ok (New n)) (Ok (Known n)) (le-ltb (length before) n (number_some before (spelled spelling word) n e).1)
   from_next None true e =
-      cond-true (ltb (length before) (length before + 1)) (Ok (New (length before + 1))) (Ok (Held (length before + 1))) (lt-ltb (length before) (length before + 1) (omega arith))
+      cond-true (ltb (length before) (length before + 1)) (Ok (New (length before + 1))) (Ok (Known (length before + 1))) (lt-ltb (length before) (length before + 1) (omega arith))
   from_next None false e = refl
 
   -- the answer, where the word has the right length
@@ -73,7 +73,7 @@ module _ {S : Type 0} (spelling : S → List ℕ) (before : List (List ℕ)) (ro
 
   by_cases : WordsApart spelling → (after : List (List ℕ)) (o : Option ℕ) (b : Bool) → number_of before (spelled spelling word) ≡ o
       → RollLeaves before (spelled spelling word) after (not (is_some o) && b) → KeepsNumbers spelling before word after (held_or_new o b (length before))
-  by_cases apart after (Some n) b e leaves = same_roll after (Ok (Held n)) leaves e
+  by_cases apart after (Some n) b e leaves = same_roll after (Ok (Known n)) leaves e
   by_cases apart after None true e leaves = grown_roll apart after leaves e
   by_cases apart after None false e leaves = same_roll after (Err (NoRoom Neither)) leaves tt
 
@@ -118,7 +118,7 @@ spelled_slice spelling word labels slice whole answer bounds =
 -- what the call says, from what the list said
 module _ {S L : Type 0} (spelling : S → List ℕ) (roll : L → List (List ℕ)) (room : L → List ℕ → Bool) (enters : L → List ℕ → L → Type 0)
     (s : L) (word : List S) (t : L) where
-  pub record Told (x : Result WordEntry Refusal) : Type 0 where
+  pub record EntryTold (x : Result WordEntry Refusal) : Type 0 where
     pub answer : x ≡ entry_answer spelling (roll s) (room s (spelled spelling word)) word
     pub after : EnterLeaves roll enters s (spelled spelling word) t (word_sized word && is_new (roll s) (room s (spelled spelling word)) (spelled spelling word))
     pub numbers : KeepsNumbers spelling (roll s) word (roll t) x
@@ -126,7 +126,7 @@ module _ {S L : Type 0} (spelling : S → List ℕ) (roll : L → List (List ℕ
   pub told : WordsApart spelling → (slice : List ℕ) → Spelled spelling word slice → (count : ℕ) (r : Result ℕ ListFault)
       → count ≡ length (roll s) → r ≡ enter_answer (roll s) (room s slice) slice
       → EnterLeaves roll enters s slice t (is_new (roll s) (room s slice) slice)
-      → (x : Result WordEntry Refusal) → x ≡ entry_from count r → Told x
+      → (x : Result WordEntry Refusal) → x ≡ entry_from count r → EntryTold x
   told apart slice fit count r counted answered left x from =
       let w = spelled spelling word in
       let answer : x ≡ entry_answer spelling (roll s) (room s w) word =

@@ -10,12 +10,12 @@ use Rattle.script.specs.Words.{word_sized, spelled}
 use Rattle.lexicon.specs.Answers.{is_new}
 use Rattle.lexicon.specs.Rolls.{number_of, word_of, numbered}
 use Rattle.entry.specs.declared.WordEntry.{WordEntry}
-use Rattle.entry.specs.declared.WordEntry.TheVariants.{New, Held}
+use Rattle.entry.specs.declared.WordEntry.TheVariants.{New, Known}
 use Rattle.entry.specs.declared.EntryReply.{EntryReply}
 
 -- entering a word of the right length: held with its number, or new with the next after the last, or refused
 abbrev pub held_or_new : Option ℕ → Bool → ℕ → Result WordEntry Refusal
-held_or_new (Some number) room count = Ok (Held number)
+held_or_new (Some number) room count = Ok (Known number)
 held_or_new None true count = Ok (New (count + 1))
 held_or_new None false count = Err (NoRoom Neither)
 
@@ -31,7 +31,7 @@ is_new_word spelling roll room word = word_sized word && is_new roll room (spell
 -- the number in an entry
 abbrev pub number_entered : WordEntry → ℕ
 number_entered (New number) = number
-number_entered (Held number) = number
+number_entered (Known number) = number
 
 -- the numbers of words before and after a word was entered
 pub record KeepsNumbers {S : Type 0} (spelling : S → List ℕ) (before : List (List ℕ)) (word : List S) (after : List (List ℕ)) (answer : Result WordEntry Refusal) : Type 0 where
@@ -51,9 +51,9 @@ abbrev pub label_total : List (List ℕ) → ℕ
 label_total roll = sum_by length roll
 
 -- the text of a line as it was read: without its line feed, which is byte 10; none of no bytes
-abbrev pub line_of : List ℕ → Option (List ℕ)
-line_of [] = None
-line_of (b ∷ more) = let read = b ∷ more in cond (slice_index read (length more) == 10) (Some (take (length more) read)) (Some read)
+abbrev pub text_read : List ℕ → Option (List ℕ)
+text_read [] = None
+text_read (b ∷ more) = let read = b ∷ more in cond (slice_index read (length more) == 10) (Some (take (length more) read)) (Some read)
 
 -- the beginning that a line asks for: what follows a question mark, which is byte 63
 abbrev pub asked_of : List ℕ → Option (List ℕ)
@@ -65,11 +65,11 @@ abbrev pub reply_of : Result WordEntry Refusal → EntryReply
 reply_of answer = record { 0 = result_map_both (λ entry. entry) report_of answer }
 
 -- an answer as it is printed
-abbrev pub answer_text : Result WordEntry Report → List ℕ
-answer_text (Ok (New number)) = decimal number ++ codes " new"
-answer_text (Ok (Held number)) = decimal number ++ codes " held"
-answer_text (Err report) = codes "no " ++ report_text report
+abbrev pub entry_text : Result WordEntry Report → List ℕ
+entry_text (Ok (New number)) = decimal number ++ codes " new"
+entry_text (Ok (Known number)) = decimal number ++ codes " held"
+entry_text (Err report) = codes "no " ++ report_text report
 
 -- a reply as it is printed
 abbrev pub reply_text : EntryReply → List ℕ
-reply_text r = answer_text r.0
+reply_text r = entry_text r.0

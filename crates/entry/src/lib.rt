@@ -9,7 +9,7 @@ ghost use Rattle.std.specs.Option.{option_map};
 ghost use Rattle.lexicon.specs.Answers.{EnterLeaves};
 ghost use Rattle.lexicon.specs.Rolls.{Lawful};
 ghost use Rattle.script.specs.Words.{spelled};
-ghost use Rattle.entry.specs.Entries.{entry_answer, is_new_word, KeepsNumbers, labels_at, label_total, line_of, asked_of, reply_of, reply_text};
+ghost use Rattle.entry.specs.Entries.{entry_answer, is_new_word, KeepsNumbers, labels_at, label_total, text_read, asked_of, reply_of, reply_text};
 
 mod meanings;
 
@@ -23,7 +23,7 @@ use std::fmt;
 #[derive(Clone, Copy, PartialEq, Eq, Debug)]
 pub enum WordEntry {
     New(u16),
-    Held(u16),
+    Known(u16),
 }
 
 // Enters a word of symbols and answers its number. A word of no symbol or of more than 32 is
@@ -45,7 +45,7 @@ pub fn enter_word<S: Script, L: GrowingList>(list: &mut L, word: &[S]) -> Result
     if number > before {
         Ok(WordEntry::New(number))
     } else {
-        Ok(WordEntry::Held(number))
+        Ok(WordEntry::Known(number))
     }
 }
 
@@ -75,7 +75,7 @@ pub fn labels_held<L: ReadableList>(list: &L) -> usize
 // The text of a line that was read up to its line feed, or to the end of the input where the last
 // line has none; none where nothing was left to read.
 pub fn line_text(read: &[u8]) -> Option<&[u8]>
-    ensures { option_map (λ x. x.now) result ≡ line_of read.now }
+    ensures { option_map (λ x. x.now) result ≡ text_read read.now }
 {
     match read {
         [] => None,
@@ -114,7 +114,7 @@ impl fmt::Display for EntryReply {
     fn fmt<W: fmt::Write>(&self, f: &mut fmt::Formatter<W>) -> fmt::Result {
         match self.0 {
             Ok(WordEntry::New(number)) => write!(f, "{number} new"),
-            Ok(WordEntry::Held(number)) => write!(f, "{number} held"),
+            Ok(WordEntry::Known(number)) => write!(f, "{number} held"),
             Err(report) => write!(f, "no {report}"),
         }
     }

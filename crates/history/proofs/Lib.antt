@@ -1,5 +1,5 @@
 pub mod Options
-pub mod Held
+pub mod Standing
 pub mod Steps
 pub mod Beginnings
 pub mod Listings

@@ -22,16 +22,16 @@ use Rattle.history.specs.Kits.{Kit, State, state_of, any_growth, number_in, trip
 use Rattle.history.specs.Refusals.{first, word_refusals, sought_refusals, link_refusals, add_refusals, tie_refusals, read_refusals, change_refusals, list_refusals}
 use Rattle.history.specs.Calls.{LinkMade, held_in, place_in, lacks, refusal_of_tie, refusal_of_add, refusal_of_sought, refusal_of_change, refusal_of_list, answered, link_by, read_by, read_of, rows_in}
 use Rattle.history.specs.Runs.{History, PresentTriple, same_triple, Reached}
-use Rattle.history.specs.Laws.{Unless, has_triple, has_link, entries_of, code_in, Answers, Next, Law}
+use Rattle.history.specs.Laws.{Unless, has_triple, has_link, listed_triples, code_in, Answers, Next, Law}
 use Rattle.members.proofs.Members.{in_map, map_in}
 use Rattle.members.proofs.Filters.{open_from, some_passes, passes_from, from_passes}
 use Rattle.history.proofs.Options.{same_test, unless_answered, unless_decided}
 use Rattle.history.proofs.Beginnings.{as_many_beginnings}
-use Rattle.history.proofs.Held.{triple_at, Fits, triple_known, triple_from, from_triple, link_coded, same_link, counts}
+use Rattle.history.proofs.Standing.{triple_at, Fits, triple_known, triple_from, from_triple, link_coded, same_link, counts}
 use Rattle.history.proofs.Listings.{as_many_rows, listing_of}
-use Rattle.history.proofs.Steps.{Held, held_of, add_grown}
+use Rattle.history.proofs.Steps.{Accounted, held_of, add_grown}
 
--- an entry has the triple if one passes the test of it
+-- a triple is present if one passes the test of it
 has_triple_is : {S L R : Type 0} (K : Kit S L R) (es : List (PresentTriple S R)) (x y : List S) (q : ℕ) → has_triple K es x y q ≡ some_passes (same_triple K x y q) es
 has_triple_is K [] x y q = refl
 has_triple_is K (e ∷ es) x y q = ap (cond (same_triple K x y q e) true) (has_triple_is K es x y q)
@@ -42,7 +42,7 @@ has_link_is [] u = refl
 has_link_is (e ∷ es) u = ap (cond (eqb e.link u) true) (has_link_is es u)
 
 module _ {S L R : Type 0} (K : Kit S L R) {es : List (PresentTriple S R)} {us : List ℕ} {l : L} {t : LinkTable} {rs : List R} (F : Fits K es us l t rs) where
-  -- the table has the triples of the entries
+  -- the table has the present triples
   pub held_is : (x y : List S) (q : ℕ) → held_in K l t x y q ≡ has_triple K es x y q
   held_is x y q =
       same_test (held_in K l t x y q) (some_passes (same_triple K x y q) es)
@@ -68,7 +68,7 @@ module _ {S L R : Type 0} (K : Kit S L R) {es : List (PresentTriple S R)} {us : 
       ap is_some (ap (coded t) (sym (eqb-true k.0.link u k.2)) ∙ link_coded K F k.0 k.1))
       ∙ sym (has_link_is es u)
 
-  -- each entry is read by its number and found by its words
+  -- each present triple is read by its number and found by its words
   answers_of : (e : PresentTriple S R) → In es e → Answers K (state_of l t rs) e
   answers_of e i =
       let h = F.stands e i in
@@ -87,7 +87,7 @@ module _ {S L R : Type 0} (K : Kit S L R) {es : List (PresentTriple S R)} {us : 
             ∙ ap (λ (o : Option ℕ). Ok (link_by K (Some k.a) (Some k.b) o)) h.held;
       }
 
-  -- no two entries are of one triple
+  -- no two present triples are the same
   once_of : (e f : PresentTriple S R) → In es e → In es f → same_triple K f.x f.y f.relation e ≡ true → e ≡ f
   once_of e f i j same =
       let he = (F.stands e i).held in
@@ -95,14 +95,14 @@ module _ {S L R : Type 0} (K : Kit S L R) {es : List (PresentTriple S R)} {us : 
       let z = triple_from K l f.x f.y f.relation e same in
       same_link K F e f i j (some_same e.link f.link (sym he ∙ ap (found t) z ∙ hf))
 
-  -- what walking finds is an entry's
+  -- what walking finds is a present triple's
   walks_of : (p : List ℕ) (u : ℕ) → number_at (cells_of t.array) p ≡ Some u → (e : PresentTriple S R) × In es e × (path_of_labels (code_in K l e) ≡ p) × (e.link ≡ u)
   walks_of p u f =
       let only = (lawful t).only p u f in
       let k = F.back (triple_of p) u (ap (number_at (cells_of t.array)) only ∙ f) in
       (k.0, k.1, ap path_of_triple k.2 ∙ only, k.3)
 
-  -- the codes of the entries, as paths, are exactly the held ones
+  -- the codes of the present triples, as paths, are exactly the held ones
   holds_of : Holds (cells_of t.array) (map path_of_labels (map (code_in K l) es))
   holds_of = record {
     sound = λ p i.
@@ -121,7 +121,7 @@ module _ {S L R : Type 0} (K : Kit S L R) {es : List (PresentTriple S R)} {us : 
       counting (cells_of t.array) (index_of t.array) (map path_of_labels (map (code_in K l) es)) (omega arith) t.array.sound holds_of
       ∙ ap (λ (n : ℕ). 1 + n) (as_many_beginnings (map (code_in K l) es))
 
-  -- reading is accepted exactly of the entries' numbers
+  -- reading is accepted exactly of the present triples' numbers
   read_next : (u : ℕ) → Unless (first (read_refusals (has_link es u))) (read_of t rs u)
   read_next u = subst (λ (b : Bool). Unless (first (read_refusals b)) (read_of t rs u)) (link_is u) (go (coded t u) refl)
     where
@@ -136,7 +136,7 @@ module _ {S L R : Type 0} (K : Kit S L R) {es : List (PresentTriple S R)} {us : 
           let k = F.back c u ((lawful t).to_number c u e) in
           ap (λ (o : Option R). is_ok (read_by (Some c) o)) (ap (λ (v : ℕ). slice_get rs (v - 1)) (sym k.3) ∙ (F.stands k.0 k.1).kept)
 
-  -- unless all numbers are held, there is one that no entry has
+  -- unless all numbers are held, there is one that no present triple has
   number_open : (length es ≡ limit t → ⊥) → (u : ℕ) × (1 ≤ u) × (u ≤ limit t) × (has_link es u ≡ false)
   number_open ne =
       let is = index_of t.array in
@@ -144,16 +144,16 @@ module _ {S L R : Type 0} (K : Kit S L R) {es : List (PresentTriple S R)} {us : 
       let none : coded t k.0 ≡ None = cond-false (is_known is k.0) (Some (triple_of (path_of (cells_of t.array) is k.0))) None k.3 in
       (k.0, k.1, omega (arith, k.2), sym (link_is k.0) ∙ ap is_some none)
 
-  -- it is refused by how many entries are asked for
-  list_refusal : (x : List S) (q places : ℕ) → refusal_of_list K l t x q places ≡ first (list_refusals x (number_in K l x) places (length (entries_of K es x q)))
+  -- it is refused by how many present triples are asked for
+  list_refusal : (x : List S) (q places : ℕ) → refusal_of_list K l t x q places ≡ first (list_refusals x (number_in K l x) places (length (listed_triples K es x q)))
   list_refusal x q places = go (number_in K l x) refl
     where
-      go : (o : Option ℕ) → number_in K l x ≡ o → first (list_refusals x o places (length (rows_in K l t x q))) ≡ first (list_refusals x o places (length (entries_of K es x q)))
+      go : (o : Option ℕ) → number_in K l x ≡ o → first (list_refusals x o places (length (rows_in K l t x q))) ≡ first (list_refusals x o places (length (listed_triples K es x q)))
       go None e = refl
       go (Some a) e = ap (λ (n : ℕ). first (list_refusals x (Some a) places n)) (as_many_rows K F x q a e)
 
-module _ {S L R : Type 0} (K : Kit S L R) {es : List (PresentTriple S R)} {us : List ℕ} {p d : ℕ} (s : State L R) (H : Held K es us p d s) where
-  -- the table is full as the entries say
+module _ {S L R : Type 0} (K : Kit S L R) {es : List (PresentTriple S R)} {us : List ℕ} {p d : ℕ} (s : State L R) (H : Accounted K es us p d s) where
+  -- the table is full as the present triples say
   full_is : all_held s.table ≡ eqb (length es) (limit s.table)
   full_is = ap (λ (n : ℕ). eqb n (limit s.table)) (counts K H.fits)
 

@@ -24,12 +24,12 @@ abbrev pub Unless : {A : Type 0} → Option Refusal → Result A Refusal → Typ
 Unless (Some f) n = n ≡ Err f
 Unless None n = is_ok n ≡ true
 
--- whether one of the entries is of the triple
+-- whether one of the present triples is this one
 abbrev pub has_triple : {S L R : Type 0} → Kit S L R → List (PresentTriple S R) → List S → List S → ℕ → Bool
 has_triple K [] x y q = false
 has_triple K (e ∷ es) x y q = cond (same_triple K x y q e) true (has_triple K es x y q)
 
--- whether one of the entries has the link number
+-- whether one of the present triples has the link number
 abbrev pub has_link : {S R : Type 0} → List (PresentTriple S R) → ℕ → Bool
 has_link [] u = false
 has_link (e ∷ es) u = cond (e.link == u) true (has_link es u)
@@ -39,9 +39,9 @@ abbrev pub asks : ℕ → ℕ → Bool
 asks zero k = true
 asks (suc q) k = k == suc q
 
--- the entries of X with the relation q, 0 for all
-abbrev pub entries_of : {S L R : Type 0} → Kit S L R → List (PresentTriple S R) → List S → ℕ → List (PresentTriple S R)
-entries_of K es x q = filter (λ e. same_word K e.x x && asks q e.relation) es
+-- the present triples of X with the relation q, 0 for all
+abbrev pub listed_triples : {S L R : Type 0} → Kit S L R → List (PresentTriple S R) → List S → ℕ → List (PresentTriple S R)
+listed_triples K es x q = filter (λ e. same_word K e.x x && asks q e.relation) es
 
 -- what an array of cells says of the present triples, of which each has a code in it: in two cells or more those in use are one more than
 -- the different non-empty beginnings of the codes, and walking finds exactly the codes, each with its triple's link number
@@ -51,11 +51,11 @@ pub record CodesInCells {S R : Type 0} (code : PresentTriple S R → List ℕ) (
   pub walked : (e : PresentTriple S R) → In es e → number_at cells (path_of_labels (code e)) ≡ Some e.link
 
 module _ {S L R : Type 0} (K : Kit S L R) where
-  -- the code of an entry's triple
+  -- the code of a present triple
   abbrev pub code_in : L → PresentTriple S R → List ℕ
   code_in l e = code_of (triple_in K l e.x e.y e.relation)
 
-  -- what reading an entry's number and finding its triple answer: its words' numbers in the roll, its relation, the record
+  -- what reading a present triple's number and finding the triple answer: its words' numbers in the roll, its relation, the record
   -- last written and the number
   pub record Answers (s : State L R) (e : PresentTriple S R) : Type 0 where
     pub a : ℕ
@@ -65,13 +65,13 @@ module _ {S L R : Type 0} (K : Kit S L R) where
     pub read : read_of s.table s.records e.link ≡ Ok (record { triple = record { x = a; relation = e.relation; y = b }; «record» = e.kept })
     pub find : find_of K s.list s.table e.x e.y e.relation ≡ Ok (Some (record { x = a; y = b; number = e.link }))
 
-  -- what listing a word answers: a row for each of its entries that is asked for, and no other row
+  -- what listing a word answers: a row for each of its present triples that is asked for, and no other row
   pub record Listing (s : State L R) (es : List (PresentTriple S R)) (x : List S) (q : ℕ) : Type 0 where
     pub rows : (r : LinkRow) → In (rows_in K s.list s.table x q) r
-        → (e : PresentTriple S R) × In (entries_of K es x q) e × (r.relation ≡ e.relation) × (number_in K s.list e.y ≡ Some r.y) × (r.link ≡ e.link)
-    pub entries : (e : PresentTriple S R) → In (entries_of K es x q) e
+        → (e : PresentTriple S R) × In (listed_triples K es x q) e × (r.relation ≡ e.relation) × (number_in K s.list e.y ≡ Some r.y) × (r.link ≡ e.link)
+    pub triples : (e : PresentTriple S R) → In (listed_triples K es x q) e
         → (r : LinkRow) × In (rows_in K s.list s.table x q) r × (r.relation ≡ e.relation) × (number_in K s.list e.y ≡ Some r.y) × (r.link ≡ e.link)
-    pub as_many : length (rows_in K s.list s.table x q) ≡ length (entries_of K es x q)
+    pub as_many : length (rows_in K s.list s.table x q) ≡ length (listed_triples K es x q)
 
   -- the next call is accepted unless a refusal listed for it applies, judged by the roll and the present triples, room by the list and
   -- a place by the cells
@@ -86,7 +86,7 @@ module _ {S L R : Type 0} (K : Kit S L R) where
     pub read : (u : ℕ) → Unless (first (read_refusals (has_link es u))) (read_of s.table s.records u)
     pub change : (u : ℕ) (r : R) (n : Result (Unit {0}) Refusal) (rs : List R) → Changes K s.table s.records u r n rs → Unless (first (change_refusals (has_link es u) (K.good r))) n
     pub list : (x : List S) (q : ℕ) (out : List LinkRow) (n : Result ℕ Refusal) (out' : List LinkRow) → Lists K s.list s.table x q out n out'
-        → Unless (first (list_refusals x (number_in K s.list x) (length out) (length (entries_of K es x q)))) n
+        → Unless (first (list_refusals x (number_in K s.list x) (length out) (length (listed_triples K es x q)))) n
     -- unless all m numbers are held, there is one that no present triple has
     pub open_number : (length es ≢ limit s.table) → (u : ℕ) × (1 ≤ u) × (u ≤ limit s.table) × (has_link es u ≡ false)
 
@@ -99,15 +99,15 @@ module _ {S L R : Type 0} (K : Kit S L R) where
     -- figures counts the present triples, which are the accepted adds and ties less the accepted deletes, and the cells in use
     pub figure : figures_of s.table ≡ record { triples = length (present K h); cells = in_use (cells_of s.table.array) }
     pub tally : length (present K h) + deletes h ≡ puts h
-    -- no two entries are of one triple
+    -- no two present triples are the same
     pub once : (e f : PresentTriple S R) → In (present K h) e → In (present K h) f → same_triple K f.x f.y f.relation e ≡ true → e ≡ f
-    -- the record of each entry is sound
+    -- the record of each present triple is sound
     pub sound : (e : PresentTriple S R) → In (present K h) e → K.good e.kept ≡ true
     -- each of them is read by its number and found by its words
     pub answers : (e : PresentTriple S R) → In (present K h) e → Answers s e
     -- the link cells hold the codes of the present triples and nothing else
     pub codes : CodesInCells (code_in s.list) (cells_of s.table.array) (present K h)
-    -- listing a known word gives its entries
+    -- listing a known word gives its present triples
     pub lists : (x : List S) (q : ℕ) (a : ℕ) → number_in K s.list x ≡ Some a → Listing s (present K h) x q
     pub next : Next (present K h) s
 

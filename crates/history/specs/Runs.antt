@@ -60,7 +60,7 @@ taken_by (Err f) = None
 abbrev pub same_word : {S L R : Type 0} → Kit S L R → List S → List S → Bool
 same_word K x y = bytes_eq (labels_of K x) (labels_of K y)
 
--- whether the entry is of this triple
+-- whether the present triple is of these words and this relation
 abbrev pub same_triple : {S L R : Type 0} → Kit S L R → List S → List S → ℕ → PresentTriple S R → Bool
 same_triple K x y q e = same_word K e.x x && (same_word K e.y y && e.relation == q)
 
@@ -70,11 +70,11 @@ put_in x y q r None es = es
 put_in x y q r (Some u) es = present_triple x y q u r ∷ es
 
 -- the triples without this one, if it was accepted that it be taken out
-abbrev pub taken_out : {S L R : Type 0} → Kit S L R → List S → List S → ℕ → Bool → List (PresentTriple S R) → List (PresentTriple S R)
-taken_out K x y q false es = es
-taken_out K x y q true es = filter (λ e. not (same_triple K x y q e)) es
+abbrev pub triples_without : {S L R : Type 0} → Kit S L R → List S → List S → ℕ → Bool → List (PresentTriple S R) → List (PresentTriple S R)
+triples_without K x y q false es = es
+triples_without K x y q true es = filter (λ e. not (same_triple K x y q e)) es
 
--- the entry with the record r if its link number is u
+-- the present triple with the record r if its link number is u
 abbrev pub rewritten : {S R : Type 0} → ℕ → R → PresentTriple S R → PresentTriple S R
 rewritten u r e = cond (e.link == u) (present_triple e.x e.y e.relation e.link r) e
 
@@ -105,7 +105,7 @@ effect_of figures = quiet
 abbrev pub present_by : {S L R : Type 0} → Kit S L R → Effect S R → Result (Reply R) Refusal → List (PresentTriple S R) → List (PresentTriple S R)
 present_by K quiet n es = es
 present_by K (puts_in x y q r) n es = put_in x y q r (handed_by n) es
-present_by K (takes_out x y q) n es = taken_out K x y q (is_ok n) es
+present_by K (takes_out x y q) n es = triples_without K x y q (is_ok n) es
 present_by K (gives u r) n es = given u r (is_ok n) es
 
 -- the triples after a call that was answered n

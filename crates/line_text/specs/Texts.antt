@@ -10,8 +10,8 @@ use Rattle.line_text.specs.declared.LineAnswer.{LineAnswer}
 use Rattle.line_text.specs.declared.LineAnswer.TheVariants.{Done, Found, Absent, Listing, Share}
 
 -- the rows of a listing, in their order
-abbrev pub rows_in : LineRows → List LineRow
-rows_in rows = take rows.count rows.rows
+abbrev pub printed_rows : LineRows → List LineRow
+printed_rows rows = take rows.count rows.rows
 
 -- a number, and the byte that ends it
 abbrev pub number_text : ℕ → ℕ → List ℕ
@@ -38,7 +38,7 @@ abbrev pub done_text : LineAnswer → List ℕ
 done_text Done = codes "ok\n"
 done_text (Found x y count) = three_text x y count
 done_text Absent = codes "none\n"
-done_text (Listing rows) = rows_text (rows_in rows)
+done_text (Listing rows) = rows_text (printed_rows rows)
 done_text (Share share) = number_text share 10
 
 -- what is printed of an answer

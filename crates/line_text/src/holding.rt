@@ -1,13 +1,13 @@
 // Rows as they are taken and held.
 ghost use Rattle.std.specs.Prelude.{◌≡◌, ◌≤◌, [], ◌∷◌, ◌++◌, length, if◌then◌else◌, Ok, Err, nat_lt};
-ghost use Rattle.line_text.specs.Texts.{rows_in};
+ghost use Rattle.line_text.specs.Texts.{printed_rows};
 
 use super::rows::{LineRow, LineRows, ROW_PLACES};
 
 impl LineRows {
     // No rows yet.
     pub fn new() -> LineRows
-        ensures { rows_in result ≡ [] }
+        ensures { printed_rows result ≡ [] }
     {
         LineRows {
             rows: [LineRow::default(); ROW_PLACES],
@@ -18,9 +18,9 @@ impl LineRows {
     // Takes a row after those that are held, or gives it back where there is no place for it; the
     // rows then stay.
     pub fn push(&mut self, row: LineRow) -> Result<(), LineRow>
-        ensures room { result ≡ (if nat_lt (length (rows_in self.old)) 100 then Ok tt else Err row) }
-        ensures after { rows_in self.new ≡
-            (if nat_lt (length (rows_in self.old)) 100 then rows_in self.old ++ row ∷ [] else rows_in self.old) }
+        ensures room { result ≡ (if nat_lt (length (printed_rows self.old)) 100 then Ok tt else Err row) }
+        ensures after { printed_rows self.new ≡
+            (if nat_lt (length (printed_rows self.old)) 100 then printed_rows self.old ++ row ∷ [] else printed_rows self.old) }
     {
         if self.count >= ROW_PLACES {
             return Err(row);
@@ -32,7 +32,7 @@ impl LineRows {
 
     // The rows that are held, in their order.
     pub fn as_slice(&self) -> &[LineRow]
-        ensures rows { result.now ≡ rows_in self.now }
+        ensures rows { result.now ≡ printed_rows self.now }
         ensures few { length result.now ≤ 100 }
     {
         &self.rows[0..self.count]

@@ -1,6 +1,6 @@
 // Rows with the counts of their links.
 ghost use Rattle.std.specs.Prelude.{◌≡◌, ◌≤◌, map, length};
-ghost use Rattle.line_text.specs.Texts.{rows_in};
+ghost use Rattle.line_text.specs.Texts.{printed_rows};
 ghost use Rattle.lines.specs.Lines.{row_of};
 
 use line_text::{LineRow, LineRows};
@@ -11,7 +11,7 @@ use share::count_at;
 // The rows, each with the count of its link.
 pub(super) fn counted(records: &[Tally], rows: &[LinkRow]) -> LineRows
     requires { length rows.now ≤ 100 }
-    ensures { rows_in result ≡ map (row_of records.now) rows.now }
+    ensures { printed_rows result ≡ map (row_of records.now) rows.now }
 {
     let mut counted = LineRows::new();
     for row in rows {

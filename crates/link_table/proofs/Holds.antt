@@ -11,7 +11,7 @@ use Rattle.cells.proofs.Climbs.{number_positive}
 use Rattle.cells.proofs.Numbers.{decides_same}
 use Rattle.double_array.specs.Spellings.{is_known, path_of}
 use Rattle.double_array.proofs.Spells.{named_of}
-use Rattle.link_table.specs.Numbers.{held_numbers, Numbered}
+use Rattle.link_table.specs.Numbers.{held_numbers, NumbersAtMost}
 use Rattle.link_table.proofs.Counts.{kept_more, kept_all}
 
 bool_same : (a b : Bool) → (a ≡ true → b ≡ true) → (b ≡ true → a ≡ true) → a ≡ b
@@ -25,12 +25,12 @@ number_low cs p zero e = absurd (number_positive cs p e)
 number_low cs p (suc n) e = omega arith
 
 -- and at most the limit
-pub number_high : (cs : List Cell) (m : ℕ) (p : List ℕ) (u : ℕ) → Numbered cs m → number_at cs p ≡ Some u → u ≤ m
+pub number_high : (cs : List Cell) (m : ℕ) (p : List ℕ) (u : ℕ) → NumbersAtMost cs m → number_at cs p ≡ Some u → u ≤ m
 number_high cs m p u few e = let h : unwrap_or (Some u) 0 ≤ m = subst (λ (o : Option ℕ). unwrap_or o 0 ≤ m) e (few p) in h
 
 -- the cells xs hold the path p, with the number u, besides what cs hold
 module _ (cs xs : List Cell) (is js p : List ℕ) (u : ℕ) (before : Sound cs is) (after : Sound xs js)
-    (few : Numbered cs (length is)) (few' : Numbered xs (length js)) (long : length js ≡ length is)
+    (few : NumbersAtMost cs (length is)) (few' : NumbersAtMost xs (length js)) (long : length js ≡ length is)
     (none : number_at cs p ≡ None) (more : (q : List ℕ) → number_at xs q ≡ cond (same_path q p) (Some u) (number_at cs q)) where
   pub new_number : number_at xs p ≡ Some u
   new_number = more p ∙ cond-true (same_path p p) (Some u) (number_at cs p) ((decides_same p p).1 refl)

@@ -23,7 +23,7 @@ use Rattle.cells.proofs.Basics.{no_some, some_same}
 use Rattle.cells.proofs.Climbs.{held_number}
 use Rattle.cells.proofs.Numbers.{decides_same}
 use Rattle.members.proofs.Pigeons.{in_counting, apart_counting, in_kept, from_kept, apart_kept}
-use Rattle.double_array.specs.Entries.{is_open, no_place, refusal, Added}
+use Rattle.double_array.specs.Entries.{is_open, place_fault, refusal, Added}
 use Rattle.double_array.specs.Outcomes.{Removed}
 use Rattle.double_array.specs.Spellings.{is_known, path_of, unwritten}
 use Rattle.double_array.specs.Views.{cells_of, index_of}
@@ -32,7 +32,7 @@ use Rattle.double_array.proofs.Blocks.{Kind, unblocked}
 use Rattle.double_array.proofs.Refusals.{judged_by}
 use Rattle.double_array.proofs.Spells.{named_of}
 use Rattle.link_table.specs.Codes.{path_of_triple, triple_of, is_triple_path, Triples}
-use Rattle.link_table.specs.Numbers.{held_numbers, Numbered}
+use Rattle.link_table.specs.Numbers.{held_numbers, NumbersAtMost}
 use Rattle.link_table.specs.Tables.{limit, found, coded, numbers, all_held, has_place, IsConsistent, Put, Out, put_refusal, Puts}
 use Rattle.link_table.specs.declared.triple.Triple.{Triple}
 use Rattle.link_table.specs.declared.table.LinkTable.{LinkTable}
@@ -44,7 +44,7 @@ use Rattle.link_table.proofs.Holds.{number_low, number_high, new_number, known_b
 -- the ghost fields in their order
 abbrev pub Fields : DoubleArray → ℕ → Type 0
 Fields d count =
-    record { few : length (index_of d) ≤ 1048575; triples : Triples (cells_of d); numbered : Numbered (cells_of d) (length (index_of d)); counted : count ≡ length (held_numbers (index_of d)) }
+    record { few : length (index_of d) ≤ 1048575; triples : Triples (cells_of d); numbered : NumbersAtMost (cells_of d) (length (index_of d)); counted : count ≡ length (held_numbers (index_of d)) }
 
 -- two tables with the same array, count and cursor
 pub same_table : (s t : LinkTable) → s.array ≡ t.array → s.count ≡ t.count → s.cursor ≡ t.cursor → s ≡ t
@@ -54,7 +54,7 @@ same_table s t p q r = λ j. record {
   cursor = r j;
   few = is_prop→PathP (λ k. length (index_of (p k)) ≤ 1048575) (λ k. le_prop) s.few t.few j;
   triples = is_prop→PathP (λ k. Triples (cells_of (p k))) (λ k. hlevel props) s.triples t.triples j;
-  numbered = is_prop→PathP (λ k. Numbered (cells_of (p k)) (length (index_of (p k)))) (λ k. hlevel props) s.numbered t.numbered j;
+  numbered = is_prop→PathP (λ k. NumbersAtMost (cells_of (p k)) (length (index_of (p k)))) (λ k. hlevel props) s.numbered t.numbered j;
   counted = is_prop→PathP (λ k. q k ≡ length (held_numbers (index_of (p k)))) (λ k. ℕ_set _ _) s.counted t.counted j;
 }
 
@@ -194,9 +194,9 @@ path_other q r ne =
     (cases_Bool (same_path (path_of_triple q) (path_of_triple r)))
 
 -- a number that is not there
-pub none_of : (o : Option ℕ) → is_some o ≡ false → o ≡ None
-none_of None e = refl
-none_of (Some u) e = absurd (both_ways true e refl)
+pub none_when : (o : Option ℕ) → is_some o ≡ false → o ≡ None
+none_when None e = refl
+none_when (Some u) e = absurd (both_ways true e refl)
 
 -- all numbers are held
 pub put_full : (s : LinkTable) (triple : Triple) → found s triple ≡ None → ((k : ℕ) → k < limit s → 0 ≤ k → 0 < get_or (index_of s.array) k 0) → put_refusal s triple ≡ Some NumbersHeld
@@ -237,7 +237,7 @@ module _ (s : LinkTable) (triple : Triple) (place : ℕ) (codes : all_codes (pat
       (and_from (ltb 0 (place + 1)) (ltb (place + 1) 2147483648) (lt-ltb 0 (place + 1) (omega arith)) (lt-ltb (place + 1) 2147483648 (omega (arith, s.few))))
       (eq-eqb (get_or is (place + 1 - 1) 0) 0 (ap (λ (n : ℕ). get_or is n 0) next ∙ vacant))
 
-  judged : refusal (cells_of s.array) (index_of s.array) (path_of_triple triple) (place + 1) ≡ no_place (enter (cells_of s.array) (index_of s.array) (path_of_triple triple) (place + 1 - 1))
+  judged : refusal (cells_of s.array) (index_of s.array) (path_of_triple triple) (place + 1) ≡ place_fault (enter (cells_of s.array) (index_of s.array) (path_of_triple triple) (place + 1 - 1))
   judged =
       judged_by (cells_of s.array) (index_of s.array) (path_of_triple triple) (place + 1)
       (and_from (ltb 0 (length (path_of_triple triple)) && ltb (length (path_of_triple triple)) 130) (all_codes (path_of_triple triple)) refl codes) open_number
@@ -261,12 +261,12 @@ module _ (s : LinkTable) (triple : Triple) (place : ℕ) (codes : all_codes (pat
   put_refused some f said = by (enter (cells_of s.array) (index_of s.array) (path_of_triple triple) (place + 1 - 1)) refl
     where
       by : (o : Option Arrays) → enter (cells_of s.array) (index_of s.array) (path_of_triple triple) (place + 1 - 1) ≡ o → put_refusal s triple ≡ Some (link_fault_of f)
-      by None e = refused_by some false (place_is None e) ∙ ap (λ (g : PathFault). Some (link_fault_of g)) (sym (some_same f NoPlaceOfPath (sym said ∙ judged ∙ ap no_place e)))
-      by (Some xs) e = absurd (no_some f (sym (judged ∙ ap no_place e) ∙ said))
+      by None e = refused_by some false (place_is None e) ∙ ap (λ (g : PathFault). Some (link_fault_of g)) (sym (some_same f NoPlaceOfPath (sym said ∙ judged ∙ ap place_fault e)))
+      by (Some xs) e = absurd (no_some f (sym (judged ∙ ap place_fault e) ∙ said))
 
   -- the array after it was entered
   module _ (d : DoubleArray) (long : length (index_of d) ≡ length (index_of s.array)) (added : Added (cells_of s.array) (path_of_triple triple) (place + 1) (cells_of d)) where
-    put_numbered : Numbered (cells_of d) (length (index_of d))
+    put_numbered : NumbersAtMost (cells_of d) (length (index_of d))
     put_numbered q =
         subst (λ (o : Option ℕ). unwrap_or o 0 ≤ length (index_of d)) (sym (added q))
         (cond_both (same_path q (path_of_triple triple)) (Some (place + 1)) (number_at (cells_of s.array) q) (λ o. unwrap_or o 0 ≤ length (index_of d)) (λ _. omega arith) (λ _. omega (arith, s.numbered q)))
@@ -325,7 +325,7 @@ module _ (s : LinkTable) (triple : Triple) (u : ℕ) (has : found s triple ≡ S
     other_same : (q : List ℕ) → same_path q (path_of_triple triple) ≡ false → number_at (cells_of d) q ≡ number_at (cells_of s.array) q
     other_same q other = removed q ∙ cond-false (same_path q (path_of_triple triple)) None (number_at (cells_of s.array) q) other
 
-    take_numbered : Numbered (cells_of d) (length (index_of d))
+    take_numbered : NumbersAtMost (cells_of d) (length (index_of d))
     take_numbered q =
         subst (λ (o : Option ℕ). unwrap_or o 0 ≤ length (index_of d)) (sym (removed q))
         (cond_both (same_path q (path_of_triple triple)) None (number_at (cells_of s.array) q) (λ o. unwrap_or o 0 ≤ length (index_of d)) (λ _. omega arith) (λ _. omega (arith, s.numbered q)))

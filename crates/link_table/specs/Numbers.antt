@@ -11,8 +11,8 @@ abbrev pub held_numbers : List ℕ → List ℕ
 held_numbers is = filter (is_known is) (range_with_len 1 (length is))
 
 -- the number of each held path is at most m
-abbrev pub Numbered : List Cell → ℕ → Type 0
-Numbered cs m = (p : List ℕ) → unwrap_or (number_at cs p) 0 ≤ m
+abbrev pub NumbersAtMost : List Cell → ℕ → Type 0
+NumbersAtMost cs m = (p : List ℕ) → unwrap_or (number_at cs p) 0 ≤ m
 
 -- the place r has the entry 0, or no place from n on has it
 abbrev pub Vacant : List ℕ → ℕ → Option ℕ → Type 0

@@ -13,7 +13,7 @@ use double_array::DoubleArray;
 
 impl LinkTable {
     // The link number of the triple, or none.
-    pub fn number_of(&self, triple: Triple) -> Option<u32>
+    pub fn link_number(&self, triple: Triple) -> Option<u32>
         ensures number { result ≡ found self.now triple }
         ensures laws { IsConsistent self.now }
     {

@@ -1,7 +1,7 @@
 // What a link table holds.
 ghost use Rattle.std.specs.Prelude.{◌≡◌, ◌≤◌, length};
 ghost use Rattle.double_array.specs.Views.{cells_of, index_of};
-ghost use Rattle.link_table.specs.Numbers.{held_numbers, Numbered};
+ghost use Rattle.link_table.specs.Numbers.{held_numbers, NumbersAtMost};
 ghost use Rattle.link_table.specs.Codes.{Triples};
 
 use double_array::DoubleArray;
@@ -15,6 +15,6 @@ pub struct LinkTable {
     pub(super) cursor: usize,
     ghost few: { length (index_of array) ≤ 1048575 },
     ghost triples: { Triples (cells_of array) },
-    ghost numbered: { Numbered (cells_of array) (length (index_of array)) },
+    ghost numbered: { NumbersAtMost (cells_of array) (length (index_of array)) },
     ghost counted: { count ≡ length (held_numbers (index_of array)) },
 }

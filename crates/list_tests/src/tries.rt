@@ -141,7 +141,7 @@ fn any_bytes_and_any_script(rt: HostRuntime) -> Result<(), Fail> {
             (&[0, 255], Ok(1)),
         ],
     );
-    assert_eq!(rt; enter_word(&mut words, &[255u16]), Ok(WordEntry::Held(1)));
+    assert_eq!(rt; enter_word(&mut words, &[255u16]), Ok(WordEntry::Known(1)));
     assert_eq!(rt;
         enter_word(&mut words, &[0x65e5u16, 0x672c]),
         Ok(WordEntry::New(4))

@@ -11,7 +11,7 @@ use Rattle.subtrie.proofs.Absent.{numbers_none, numbers_few}
 use Rattle.subtrie.proofs.Listings.{listed, members}
 use Rattle.link_table.specs.Tables.{found}
 use Rattle.link_table.specs.declared.table.LinkTable.{LinkTable}
-use Rattle.link_table.proofs.Tables.{none_of}
+use Rattle.link_table.proofs.Tables.{none_when}
 use Rattle.listing.specs.Rows.{row, rows_below}
 use Rattle.listing.specs.Parts.{rows_from, leads_on}
 
@@ -20,7 +20,7 @@ none_below : (cs : List Cell) (p : List ℕ) → false ≡ leads_on cs p → num
 none_below cs p e =
     ⊎_elim
     (λ few. numbers_few cs (omega (arith, ltb-false 1 (length cs) few)) p)
-    (λ none. numbers_none cs p (none_of (cell_at cs p) none))
+    (λ none. numbers_none cs p (none_when (cell_at cs p) none))
     (and_cases (ltb 1 (length cs)) (is_some (cell_at cs p)) (sym e))
 
 module _ (t : LinkTable) where

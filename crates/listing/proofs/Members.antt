@@ -10,7 +10,7 @@ use Rattle.link_table.specs.declared.triple.Triple.{Triple}
 use Rattle.link_table.specs.declared.table.LinkTable.{LinkTable}
 use Rattle.link_table.proofs.Labels.{code_bounds, triple_five, number_codes}
 use Rattle.listing.specs.declared.row.LinkRow.{LinkRow}
-use Rattle.listing.specs.Rows.{row, rows_below, rows_by, rows_to, rows_of, Members}
+use Rattle.listing.specs.Rows.{row, rows_below, rows_by, rows_to, rows_of, ListsExactly}
 
 row_in : (o : Option ℕ) (k b : ℕ) (r : LinkRow) → In (row o k b) r → (u : ℕ) × (o ≡ Some u) × (r ≡ record { relation = k; y = b; link = u })
 row_in None k b r i = absurd i
@@ -25,7 +25,7 @@ in_row : (o : Option ℕ) (k b u : ℕ) → o ≡ Some u → In (row o k b) (rec
 in_row o k b u e = subst (λ (o : Option ℕ). In (row o k b) (record { relation = k; y = b; link = u })) (sym e) (inl refl)
 
 -- a row of the relation k, with the second word's number below n, that the table has
-pub record Known (t : LinkTable) (x k n : ℕ) (r : LinkRow) : Type 0 where
+pub record KnownRow (t : LinkTable) (x k n : ℕ) (r : LinkRow) : Type 0 where
   pub held : found t (record { x = x; relation = r.relation; y = r.y }) ≡ Some r.link
   pub by : r.relation ≡ k
   pub low : r.y < n
@@ -40,12 +40,12 @@ module _ (t : LinkTable) (x : ℕ) where
         omega (arith, (code_bounds (path_of_triple it) 3 (triple_five it) codes (omega arith)).1),
       )
 
-  one_known : (k n : ℕ) (r : LinkRow) → In (row (found t (record { x = x; relation = k; y = n })) k n) r → Known t x k (suc n) r
+  one_known : (k n : ℕ) (r : LinkRow) → In (row (found t (record { x = x; relation = k; y = n })) k n) r → KnownRow t x k (suc n) r
   one_known k n r i =
       let h = row_in (found t (record { x = x; relation = k; y = n })) k n r i in
-      subst (Known t x k (suc n)) (sym h.2) (record { held = h.1; by = refl; low = omega arith })
+      subst (KnownRow t x k (suc n)) (sym h.2) (record { held = h.1; by = refl; low = omega arith })
 
-  pub below_known : (k n : ℕ) (r : LinkRow) → In (rows_below t x k n) r → Known t x k n r
+  pub below_known : (k n : ℕ) (r : LinkRow) → In (rows_below t x k n) r → KnownRow t x k n r
   unfolding rows_below
   below_known k zero r i = absurd i
   below_known k (suc n) r i =
@@ -67,7 +67,7 @@ module _ (t : LinkTable) (x : ℕ) where
       in_rest (rows_below t x k n) one it (subst (λ (m : ℕ). In (row (found t (record { x = x; relation = k; y = m })) k m) it) same (in_row _ k b u e)))
       (cases_lt b n)
 
-  pub to_known : (n : ℕ) (r : LinkRow) → In (rows_to t x n) r → (1 ≤ r.relation) × (r.relation ≤ n) × Known t x r.relation 65536 r
+  pub to_known : (n : ℕ) (r : LinkRow) → In (rows_to t x n) r → (1 ≤ r.relation) × (r.relation ≤ n) × KnownRow t x r.relation 65536 r
   unfolding rows_to
   to_known zero r i = absurd i
   to_known (suc n) r i =
@@ -89,7 +89,7 @@ module _ (t : LinkTable) (x : ℕ) where
       (cases_lt k (suc n))
 
   -- the rows are those of the present triples that are asked for
-  pub members : (q : ℕ) → Members t x q (rows_of t x q)
+  pub members : (q : ℕ) → ListsExactly t x q (rows_of t x q)
   members zero = record {
     present = λ r i. let h = to_known 255 r i in (h.2.held, h.0);
     whole = λ k b u e some. to_in k b u 255 some (omega (arith, (bounds k b u e).0)) e;

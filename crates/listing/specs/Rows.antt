@@ -35,7 +35,7 @@ Asks zero k = 1 ≤ k
 Asks (suc q) k = k ≡ suc q
 
 -- a row is listed exactly if the table has its triple with its link number and q asks for its relation
-pub record Members (t : LinkTable) (x q : ℕ) (rows : List LinkRow) : Type 0 where
+pub record ListsExactly (t : LinkTable) (x q : ℕ) (rows : List LinkRow) : Type 0 where
   pub present : (r : LinkRow) → In rows r → (found t (record { x = x; relation = r.relation; y = r.y }) ≡ Some r.link) × Asks q r.relation
   pub whole : (k b u : ℕ) → found t (record { x = x; relation = k; y = b }) ≡ Some u → Asks q k → In rows (record { relation = k; y = b; link = u })
 
@@ -44,6 +44,6 @@ abbrev pub Earlier : LinkRow → LinkRow → Type 0
 Earlier r s = (r.relation < s.relation) ⊎ ((r.relation ≡ s.relation) × (r.y < s.y))
 
 -- each row comes before all that follow it
-abbrev pub Rising : List LinkRow → Type 0
-Rising [] = Unit {0}
-Rising (r ∷ rs) = ((s : LinkRow) → In rs s → Earlier r s) × Rising rs
+abbrev pub RowsRise : List LinkRow → Type 0
+RowsRise [] = Unit {0}
+RowsRise (r ∷ rs) = ((s : LinkRow) → In rs s → Earlier r s) × RowsRise rs

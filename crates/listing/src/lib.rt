@@ -10,7 +10,7 @@ mod row;
 mod writing;
 
 ghost use Rattle.output.specs.Written.{Filled};
-ghost use Rattle.listing.specs.Rows.{rows_of, Members, Rising};
+ghost use Rattle.listing.specs.Rows.{rows_of, ListsExactly, RowsRise};
 
 use link_table::LinkTable;
 pub use row::LinkRow;
@@ -23,8 +23,8 @@ pub use writing::list_upper;
 // places stays as it is, and the answer is none.
 pub fn list_links(table: &LinkTable, x: u16, relation: u8, out: &mut [LinkRow]) -> Option<usize>
     ensures output { Filled (rows_of table.now x relation) out.old result out.new }
-    ensures members { Members table.now x relation (rows_of table.now x relation) }
-    ensures order { Rising (rows_of table.now x relation) }
+    ensures members { ListsExactly table.now x relation (rows_of table.now x relation) }
+    ensures order { RowsRise (rows_of table.now x relation) }
 {
     let links = WordLinks { table, x };
     let count = links.list_rows(relation, &mut []);

@@ -5,7 +5,7 @@
 // when it is given back (tried).
 ghost use Rattle.std.specs.Prelude.{◌+◌, ◌*◌, ◌^◌, ◌<◌, ◌≤◌, [], ◌∷◌, Some};
 ghost use Rattle.output.specs.Written.{Filled};
-ghost use Rattle.listing.specs.Parts.{rows_from, Placed};
+ghost use Rattle.listing.specs.Parts.{rows_from, RowsWritten};
 ghost use Rattle.listing.specs.Rows.{rows_by, rows_to, rows_of};
 
 use super::beginning::{beginning, leads};
@@ -16,7 +16,7 @@ use link_table::{LinkTable, Triple};
 // Writes a row at the place `at`, if the output has it, and answers the next place.
 fn place_row(out: &mut [LinkRow], at: usize, line: LinkRow) -> usize
     requires { at < 2 ^ 63 }
-    ensures { Placed out.old at (line ∷ []) result out.new }
+    ensures { RowsWritten out.old at (line ∷ []) result out.new }
 {
     if at < out.len() {
         out[at] = line;
@@ -36,14 +36,14 @@ impl<'a> WordLinks<'a> {
     // and answers where they end.
     fn list_block(&self, relation: u8, upper: u8, out: &mut [LinkRow], at: usize) -> usize
         requires { at + 256 < 2 ^ 63 }
-        ensures { Placed out.old at (rows_from self.now.table.now self.now.x relation (256 * upper) 256) result
+        ensures { RowsWritten out.old at (rows_from self.now.table.now self.now.x relation (256 * upper) 256) result
             out.new }
     {
         let x = self.x;
         let mut next = at;
         for lower in 0..256 {
             let y = 256 * upper as u16 + lower;
-            if let Some(link) = self.table.number_of(Triple { x, relation, y }) {
+            if let Some(link) = self.table.link_number(Triple { x, relation, y }) {
                 next = place_row(out, next, LinkRow { relation, y, link });
             }
         }
@@ -54,7 +54,7 @@ impl<'a> WordLinks<'a> {
     // to no cell is passed over.
     fn list_relation(&self, relation: u8, out: &mut [LinkRow], at: usize) -> usize
         requires { at + 65536 < 2 ^ 63 }
-        ensures { Placed out.old at (rows_by self.now.table.now self.now.x relation) result out.new }
+        ensures { RowsWritten out.old at (rows_by self.now.table.now self.now.x relation) result out.new }
     {
         let [first, second, third] = beginning(self.x, relation);
         if !leads(self.table, &[first, second, third]) {
@@ -72,7 +72,7 @@ impl<'a> WordLinks<'a> {
     // Writes the rows by the relations 1 to 255 from the start of the output, and answers where they
     // end.
     fn list_all(&self, out: &mut [LinkRow]) -> usize
-        ensures { Placed out.old 0 (rows_to self.now.table.now self.now.x 255) result out.new }
+        ensures { RowsWritten out.old 0 (rows_to self.now.table.now self.now.x 255) result out.new }
     {
         let mut next = 0;
         for before in 0..255 {
@@ -84,7 +84,7 @@ impl<'a> WordLinks<'a> {
     // Writes the rows by the relation, 0 for all, from the start of the output, and answers where they
     // end.
     pub(super) fn list_rows(&self, relation: u8, out: &mut [LinkRow]) -> usize
-        ensures { Placed out.old 0 (rows_of self.now.table.now self.now.x relation) result out.new }
+        ensures { RowsWritten out.old 0 (rows_of self.now.table.now self.now.x relation) result out.new }
     {
         if relation == 0 {
             self.list_all(out)

@@ -100,7 +100,7 @@ module _ (a b : List (List ℕ)) (w : List ℕ) where
 
 -- an own list took a word that both lists lack
 module _ {O : Type 0} (roll : O → List (List ℕ)) (room : O → List ℕ → Bool) (enters : O → List ℕ → O → Type 0) (a : List (List ℕ)) (s t : O) (w : List ℕ) (n : ℕ) where
-  pub record Entered : Type 0 where
+  pub record EnteredAbove : Type 0 where
     pub sized : label_sized w ≡ true
     pub absent : number_of (a ++ roll s) w ≡ None
     pub next : n ≡ length (roll s) + 1
@@ -110,7 +110,7 @@ module _ {O : Type 0} (roll : O → List (List ℕ)) (room : O → List ℕ → 
     pub lawful : Lawful (a ++ roll t)
 
   pub entered : Lawful (a ++ roll s) → length a + length (roll s) < 65535 → ◌≡◌ {A = Result (Option ℕ) ListFault} (Ok None) (find_answer (a ++ roll s) w)
-      → ◌≡◌ {A = Result ℕ ListFault} (Ok n) (enter_answer (roll s) (room s w) w) → EnterLeaves roll enters s w t (is_new (roll s) (room s w) w) → Entered
+      → ◌≡◌ {A = Result ℕ ListFault} (Ok n) (enter_answer (roll s) (room s w) w) → EnterLeaves roll enters s w t (is_new (roll s) (room s w) w) → EnteredAbove
   entered lawful few lacks answer leaves =
       let k = found_parts (a ++ roll s) w None lacks in
       let none = (none_both a (roll s) w k.1).1 in
@@ -120,7 +120,7 @@ module _ {O : Type 0} (roll : O → List (List ℕ)) (room : O → List ℕ → 
       by k.0 k.1 none (room s w) refl said
     where
       by : label_sized w ≡ true → number_of (a ++ roll s) w ≡ None → number_of (roll s) w ≡ None → (free : Bool) → room s w ≡ free
-          → ◌≡◌ {A = Result ℕ ListFault} (Ok n) (held_or_next None free (length (roll s))) → Entered
+          → ◌≡◌ {A = Result ℕ ListFault} (Ok n) (held_or_next None free (length (roll s))) → EnteredAbove
       by sized absent none false e said = absurd (let z : ◌≡◌ {A = ℕ} 0 1 = cc in omega arith)
       by sized absent none true e said =
           let new = subst (EnterLeaves roll enters s w t) (new_is (roll s) (room s w) w sized none e) leaves in

@@ -16,39 +16,39 @@ use Rattle.plain_list.specs.declared.list.PlainList.{PlainList}
 use Rattle.plain_list.proofs.CutsLemmas.{length_cut, cut_at, bytes_cut, cut_write, next_inside}
 
 -- the lengths of the words
-abbrev pub counted : PlainList → List ℕ
-counted s = take s.count (vec_items s.lengths)
+abbrev pub counted_lengths : PlainList → List ℕ
+counted_lengths s = take s.count (vec_items s.lengths)
 
-pub length_counted : (s : PlainList) → length (counted s) ≡ s.count
+pub length_counted : (s : PlainList) → length (counted_lengths s) ≡ s.count
 length_counted s = length-take-le s.count (vec_items s.lengths) (omega (arith, s.within, s.lengths.ok.0))
 
 pub length_roll : (s : PlainList) → length (roll_of s) ≡ s.count
-length_roll s = length_cut (counted s) (vec_items s.bytes) ∙ length_counted s
+length_roll s = length_cut (counted_lengths s) (vec_items s.bytes) ∙ length_counted s
 
-pub words_inside : (s : PlainList) → sum (counted s) ≤ length (vec_items s.bytes)
+pub words_inside : (s : PlainList) → sum (counted_lengths s) ≤ length (vec_items s.bytes)
 words_inside s = omega (arith, s.ended, s.inside, s.bytes.ok.0)
 
 pub bytes_roll : (s : PlainList) → bytes_in (roll_of s) ≡ s.used
-bytes_roll s = bytes_cut (counted s) (vec_items s.bytes) (words_inside s) ∙ sym s.ended
+bytes_roll s = bytes_cut (counted_lengths s) (vec_items s.bytes) (words_inside s) ∙ sym s.ended
 
 pub roll_lawful : (s : PlainList) → Lawful (roll_of s)
 roll_lawful s = record { few = omega (arith, s.few, length_roll s); sized = s.sized; apart = s.apart }
 
 -- the lengths before an index are those of words
-pub front_is : (s : PlainList) (i : ℕ) → i < s.count → take i (vec_items s.lengths) ≡ take i (counted s)
+pub front_is : (s : PlainList) (i : ℕ) → i < s.count → take i (vec_items s.lengths) ≡ take i (counted_lengths s)
 front_is s i h = sym (take-take i s.count (vec_items s.lengths) (omega arith))
 
 -- the word at an index lies inside the bytes
-pub word_inside : (s : PlainList) (i : ℕ) → i < s.count → sum (take i (counted s)) + slice_index (vec_items s.lengths) i ≤ length (vec_items s.bytes)
+pub word_inside : (s : PlainList) (i : ℕ) → i < s.count → sum (take i (counted_lengths s)) + slice_index (vec_items s.lengths) i ≤ length (vec_items s.bytes)
 word_inside s i h =
-    let within : i < length (counted s) = omega (arith, length_counted s) in
-    omega (arith, next_inside (counted s) i within, words_inside s, get_or-take s.count (vec_items s.lengths) i 0 h)
+    let within : i < length (counted_lengths s) = omega (arith, length_counted s) in
+    omega (arith, next_inside (counted_lengths s) i within, words_inside s, get_or-take s.count (vec_items s.lengths) i 0 h)
 
 -- and reads as the roll has it
-pub word_reads : (s : PlainList) (i : ℕ) → i < s.count → slice_index_or (roll_of s) i [] ≡ take (slice_index (vec_items s.lengths) i) (drop (sum (take i (counted s))) (vec_items s.bytes))
+pub word_reads : (s : PlainList) (i : ℕ) → i < s.count → slice_index_or (roll_of s) i [] ≡ take (slice_index (vec_items s.lengths) i) (drop (sum (take i (counted_lengths s))) (vec_items s.bytes))
 word_reads s i h =
-    cut_at (counted s) (vec_items s.bytes) i (omega (arith, length_counted s))
-    ∙ ap (λ (n : ℕ). take n (drop (sum (take i (counted s))) (vec_items s.bytes))) (get_or-take s.count (vec_items s.lengths) i 0 h)
+    cut_at (counted_lengths s) (vec_items s.bytes) i (omega (arith, length_counted s))
+    ∙ ap (λ (n : ℕ). take n (drop (sum (take i (counted_lengths s))) (vec_items s.bytes))) (get_or-take s.count (vec_items s.lengths) i 0 h)
 
 -- whether there is room, by how many words are counted and how many bytes are used
 pub room_is : (s : PlainList) (w : List ℕ)
@@ -94,17 +94,17 @@ new_facts s w e =
 -- the arrays with a new word written: how the words and their sum follow
 module _ (s : PlainList) (w : List ℕ) (new : New s w) where
   -- the array of lengths after the word
-  pub more_counted : take (s.count + 1) (slice_set (vec_items s.lengths) s.count (length w)) ≡ counted s ++ length w ∷ []
+  pub more_counted : take (s.count + 1) (slice_set (vec_items s.lengths) s.count (length w)) ≡ counted_lengths s ++ length w ∷ []
   more_counted = take_more_set (vec_items s.lengths) s.count (length w) (omega (arith, new.place, s.lengths.ok.0))
 
   pub more_sum : s.used + length w ≡ sum (take (s.count + 1) (slice_set (vec_items s.lengths) s.count (length w)))
-  more_sum = omega (arith, ap sum more_counted, sum_by_push (λ x. x) (counted s) (length w), s.ended)
+  more_sum = omega (arith, ap sum more_counted, sum_by_push (λ x. x) (counted_lengths s) (length w), s.ended)
 
   pub more_roll : cut (take (s.count + 1) (slice_set (vec_items s.lengths) s.count (length w))) (written (vec_items s.bytes) s.used w) ≡ roll_of s ++ w ∷ []
   more_roll =
       ap (λ (ns : List ℕ). cut ns (written (vec_items s.bytes) s.used w)) more_counted
-      ∙ ap (λ (u : ℕ). cut (counted s ++ length w ∷ []) (written (vec_items s.bytes) u w)) s.ended
-      ∙ cut_write (counted s) (vec_items s.bytes) w (omega (arith, s.ended, new.fits, s.bytes.ok.0))
+      ∙ ap (λ (u : ℕ). cut (counted_lengths s ++ length w ∷ []) (written (vec_items s.bytes) u w)) s.ended
+      ∙ cut_write (counted_lengths s) (vec_items s.bytes) w (omega (arith, s.ended, new.fits, s.bytes.ok.0))
 
   -- the bytes after the word is put into them, as the field holds them
   pub more_bytes : (last held : List ℕ) → length last ≡ s.bytes.len → held ≡ vec_items s.bytes → last ≡ cond (fits held s.used w) (written held s.used w) held

@@ -18,7 +18,7 @@ use Rattle.history.specs.Runs.{PresentTriple, same_word, same_triple, present}
 use Rattle.history.specs.Laws.{Unless}
 use Rattle.members.proofs.Filters.{kept_map}
 use Rattle.history.proofs.Options.{none_applies, applies_none}
-use Rattle.history.proofs.Held.{Fits, triple_from}
+use Rattle.history.proofs.Standing.{Fits, triple_from}
 use Rattle.history.proofs.Steps.{held_of}
 use Rattle.history.proofs.Listings.{same_sums}
 use Rattle.history.proofs.Runs.{held_is, law_of}
@@ -26,21 +26,21 @@ use Rattle.store.specs.Links.{link_answer}
 use Rattle.share.specs.Rounding.{share_of}
 use Rattle.share.specs.Shares.{count_of, count_at, present_in, share_answer}
 use Rattle.share.specs.Totals.{CountedTriple, total_of}
-use Rattle.share.specs.Laws.{counted, ShareLaw}
+use Rattle.share.specs.Laws.{with_count, ShareLaw}
 use Rattle.share.proofs.Present.{rows_total}
 use Rattle.share.proofs.Sums.{sum_map}
 
--- the total is the sum of the counts of the entries that have the word and the relation
+-- the total is the sum of the counts of the present triples that have the word and the relation
 total_entries : {S L : Type 0} (K : Kit S L Tally) (es : List (PresentTriple S Tally)) (x : List S) (q : ℕ)
-    → total_of (same_word K) (map counted es) x q ≡ sum_by (λ e. e.kept.count) (filter (λ e. same_word K e.x x && eqb e.relation q) es)
+    → total_of (same_word K) (map with_count es) x q ≡ sum_by (λ e. e.kept.count) (filter (λ e. same_word K e.x x && eqb e.relation q) es)
 total_entries {S} K es x q =
     let has : CountedTriple (List S) → Bool = λ c. same_word K c.x x && eqb c.relation q in
-    let asked : PresentTriple S Tally → Bool = λ e. has (counted e) in
-    ap (sum_by (λ (c : CountedTriple (List S)). c.count)) (kept_map counted has asked es (λ e i. refl)) ∙ sum_map counted (λ (c : CountedTriple (List S)). c.count) (filter asked es)
+    let asked : PresentTriple S Tally → Bool = λ e. has (with_count e) in
+    ap (sum_by (λ (c : CountedTriple (List S)). c.count)) (kept_map with_count has asked es (λ e i. refl)) ∙ sum_map with_count (λ (c : CountedTriple (List S)). c.count) (filter asked es)
 
--- the count of an entry of the triple is a part of it
+-- the count of a present triple of the triple is a part of it
 part_of_entries : {S L : Type 0} (K : Kit S L Tally) (es : List (PresentTriple S Tally)) (x y : List S) (q : ℕ) (e : PresentTriple S Tally) → In es e → same_triple K x y q e ≡ true
-    → e.kept.count ≤ total_of (same_word K) (map counted es) x q
+    → e.kept.count ≤ total_of (same_word K) (map with_count es) x q
 part_of_entries {S} K es x y q e i same =
     let asked : PresentTriple S Tally → Bool = λ d. same_word K d.x x && eqb d.relation q in
     let one = and_parts (same_word K e.x x) (same_word K e.y y && eqb e.relation q) same in
@@ -49,12 +49,12 @@ part_of_entries {S} K es x y q e i same =
     subst (λ (n : ℕ). e.kept.count ≤ n) (sym (total_entries K es x q)) (part_of_sum (λ (d : PresentTriple S Tally). d.kept.count) (filter asked es) e there)
 
 module _ {S L : Type 0} (K : Kit S L Tally) {es : List (PresentTriple S Tally)} {us : List ℕ} {l : L} {t : LinkTable} {records : List Tally} (F : Fits K es us l t records) where
-  -- the count at an entry's number is its own
+  -- the count at a present triple's number is its own
   count_is : (e : PresentTriple S Tally) → In es e → count_at records e.link ≡ e.kept.count
   count_is e i = ap count_of (F.stands e i).kept
 
-  -- the total of a known word and a relation, over the present triples of the table, is that over the entries
-  pub same_total : (x : List S) (q a : ℕ) → eqb q 0 ≡ false → number_in K l x ≡ Some a → total_of eqb (present_in t records) (unwrap_or (number_in K l x) 0) q ≡ total_of (same_word K) (map counted es) x q
+  -- the total of a known word and a relation, over the present triples of the table, is that over the present triples
+  pub same_total : (x : List S) (q a : ℕ) → eqb q 0 ≡ false → number_in K l x ≡ Some a → total_of eqb (present_in t records) (unwrap_or (number_in K l x) 0) q ≡ total_of (same_word K) (map with_count es) x q
   same_total x zero a some number = absurd (eqb-false 0 0 some refl)
   same_total x (suc q) a some number =
       sym (rows_total t records (unwrap_or (number_in K l x) 0) (suc q)) ∙ same_sums K F x (suc q) a number (λ r. count_at records r.link) (λ e. e.kept.count) (λ r e i z. ap (count_at records) z ∙ count_is e i) ∙ sym (total_entries K es x (suc q))
@@ -73,7 +73,7 @@ module _ {S L : Type 0} (K : Kit S L Tally) (apart : WordsApart K.spelling) (goo
   abbrev refusal : Option Refusal
   refusal = refusal_of_sought K l t x y q
 
-  -- the link of an entry of the triple is not refused, and it is answered
+  -- the link of a present triple of the triple is not refused, and it is answered
   link_is : {es : List (PresentTriple S Tally)} {us : List ℕ} (F : Fits K es us l t records) (e : PresentTriple S Tally) → In es e → same_triple K x y q e ≡ true
       → (link_answer K l t x y q ≡ Ok (link_in K l x y e.link)) × (eqb q 0 ≡ false) × ((a : ℕ) × (number_in K l x ≡ Some a))
   link_is F e i same =

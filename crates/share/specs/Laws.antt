@@ -18,13 +18,13 @@ abbrev pub tally_kit : {S A L : Type 0} → Scripts S A → Lists L → Kit S L 
 tally_kit s l = kit_of s l (record { sound = sound_tally })
 
 -- a present triple of a history, in words, with the count last written for it
-abbrev pub counted : {S : Type 0} → PresentTriple S Tally → CountedTriple (List S)
-counted e = record { x = e.x; relation = e.relation; count = e.kept.count }
+abbrev pub with_count : {S : Type 0} → PresentTriple S Tally → CountedTriple (List S)
+with_count e = record { x = e.x; relation = e.relation; count = e.kept.count }
 
 module _ {S L : Type 0} (K : Kit S L Tally) where
   -- T: the sum of the counts of all the triples that are present after a history and have the word and the relation
   abbrev pub total_after : History S Tally → List S → ℕ → ℕ
-  total_after h x q = total_of (same_word K) (map counted (present K h)) x q
+  total_after h x q = total_of (same_word K) (map with_count (present K h)) x q
 
   -- what the share of (x, y, q) answers in a state s, of every history that led to it
   pub record ShareLaw (s : State L Tally) (x y : List S) (q : ℕ) (r : Result ℕ Refusal) : Type 0 where

@@ -31,8 +31,8 @@ pub joins_refusal : (s : LinkTable) (triple : Triple) (o : Option LinkFault) →
 joins_refusal s triple o e = lifted (is_some (found s triple)) (all_held s) (has_place s triple) ∙ ap (option_map link_refusal) e
 
 -- the triple of words that have its numbers
-pub same_triple : {S L R : Type 0} (K : Kit S L R) (l : L) (x y : List S) (q : ℕ) (triple : Triple) → number_in K l x ≡ Some triple.x → number_in K l y ≡ Some triple.y → triple.relation ≡ q → triple_in K l x y q ≡ triple
-same_triple K l x y q triple ex ey eq =
+pub same_triple_lem : {S L R : Type 0} (K : Kit S L R) (l : L) (x y : List S) (q : ℕ) (triple : Triple) → number_in K l x ≡ Some triple.x → number_in K l y ≡ Some triple.y → triple.relation ≡ q → triple_in K l x y q ≡ triple
+same_triple_lem K l x y q triple ex ey eq =
     ap (λ (o : Option ℕ). record { x = unwrap_or o 0; relation = q; y = unwrap_or (number_in K l y) 0 }) ex
     ∙ ap (λ (o : Option ℕ). record { x = triple.x; relation = q; y = unwrap_or o 0 }) ey
     ∙ ap (λ (k : ℕ). record { x = triple.x; relation = k; y = triple.y }) (sym eq)
@@ -56,7 +56,7 @@ module _ {S L R : Type 0} (K : Kit S L R) (l : L) (t t' : LinkTable) (rs rs' : L
           ∙ ap (λ (o : Option ℕ). Ok (record { x = unwrap_or o 0; y = triple.y; number = h.0 })) (sym ex)
           ∙ ap (λ (o : Option ℕ). Ok (record { x = unwrap_or (number_in K l x) 0; y = unwrap_or o 0; number = h.0 })) (sym ey);
       list = refl;
-      table = subst (λ (z : Triple). Put t z h.0 t') (sym (same_triple K l x y q triple ex ey eq)) h.2;
+      table = subst (λ (z : Triple). Put t z h.0 t') (sym (same_triple_lem K l x y q triple ex ey eq)) h.2;
       records = h.3;
     }
 
@@ -64,7 +64,7 @@ module _ {S L R : Type 0} (K : Kit S L R) (l : L) (t t' : LinkTable) (rs rs' : L
         → Decided o (state_of l t rs) n (state_of l t' rs') (LinkMade K (state_of l t rs) x y q r n (state_of l t' rs'))
     link_made n o e h =
         by_refusal n o (subst (λ (z : Option Refusal). JoinsAt z t rs triple r n t' rs')
-        (sym (e ∙ ap (λ (z : Triple). first (link_refusals (is_some (found t z)) (all_held t) (has_place t z))) (same_triple K l x y q triple ex ey eq))) h)
+        (sym (e ∙ ap (λ (z : Triple). first (link_refusals (is_some (found t z)) (all_held t) (has_place t z))) (same_triple_lem K l x y q triple ex ey eq))) h)
 
 module _ {S L R : Type 0} (K : Kit S L R) (l : L) (t : LinkTable) (rs : List R) (x y : List S) (q : ℕ) (r : R) where
   abbrev unknowns : List (Bool × Refusal)
@@ -101,7 +101,7 @@ find_known K l t x y q p fit holds a b ea eb =
     ap (λ (o : Option Refusal). answered o (link_by K (number_in K l x) (number_in K l y) (found t (triple_in K l x y q)))) fit
     ∙ ap (λ (o : Option ℕ). Ok (link_by K o (number_in K l y) (found t (triple_in K l x y q)))) k.0
     ∙ ap (λ (o : Option ℕ). Ok (link_by K (Some a) o (found t (triple_in K l x y q)))) k.1
-    ∙ ap (λ (z : Triple). Ok (link_by K (Some a) (Some b) (found t z))) (same_triple K l x y q triple k.0 k.1 refl)
+    ∙ ap (λ (z : Triple). Ok (link_by K (Some a) (Some b) (found t z))) (same_triple_lem K l x y q triple k.0 k.1 refl)
 
 module _ {S L R : Type 0} (K : Kit S L R) (l : L) (t : LinkTable) (x y : List S) (q : ℕ) (fit : first (word_refusals x y q) ≡ None) where
   abbrev absent : List (Bool × Refusal)
@@ -120,14 +120,14 @@ module _ {S L R : Type 0} (K : Kit S L R) (l : L) (t : LinkTable) (x y : List S)
     refusal_is =
         first_on (word_refusals x y q) (unknown ++ absent) fit
         ∙ first_on unknown absent (known_none K l x y known.0 known.1)
-        ∙ ap (λ (z : Triple). first ((not (is_some (found t z)), TripleAbsent) ∷ [])) (same_triple K l x y q triple known.0 known.1 known.2)
+        ∙ ap (λ (z : Triple). first ((not (is_some (found t z)), TripleAbsent) ∷ [])) (same_triple_lem K l x y q triple known.0 known.1 known.2)
 
     -- taken out
     pub delete_out : (u : ℕ) (t' : LinkTable) → Out t triple u t' → Deletes K l t x y q (Ok u) t'
     delete_out u t' out =
         decided_ok (refusal_of_sought K l t x y q) t (Ok u) t' _
         (refusal_is ∙ ap (λ (o : Option ℕ). first ((not (is_some o), TripleAbsent) ∷ [])) out.had)
-        (u, refl, subst (λ (z : Triple). Out t z u t') (sym (same_triple K l x y q triple known.0 known.1 known.2)) out)
+        (u, refl, subst (λ (z : Triple). Out t z u t') (sym (same_triple_lem K l x y q triple known.0 known.1 known.2)) out)
 
     -- a triple that is not present is refused
     pub delete_absent : (t' : LinkTable) → found t triple ≡ None → (f : Refusal) → f ≡ TripleAbsent → (n : Result ℕ Refusal) → n ≡ Err f → t' ≡ t → Deletes K l t x y q n t'
@@ -142,4 +142,4 @@ module _ {S L R : Type 0} (K : Kit S L R) (l : L) (t : LinkTable) (x y : List S)
         ap (λ (o : Option Refusal). answered o (link_in K l x y (unwrap_or (found t (triple_in K l x y q)) 0))) refusal_is
         ∙ ap (λ (o : Option ℕ). answered (first ((not (is_some (found t triple)), TripleAbsent) ∷ [])) (record { x = unwrap_or o 0; y = unwrap_or (number_in K l y) 0; number = unwrap_or (found t (triple_in K l x y q)) 0 })) known.0
         ∙ ap (λ (o : Option ℕ). answered (first ((not (is_some (found t triple)), TripleAbsent) ∷ [])) (record { x = triple.x; y = unwrap_or o 0; number = unwrap_or (found t (triple_in K l x y q)) 0 })) known.1
-        ∙ ap (λ (z : Triple). answered (first ((not (is_some (found t triple)), TripleAbsent) ∷ [])) (record { x = triple.x; y = triple.y; number = unwrap_or (found t z) 0 })) (same_triple K l x y q triple known.0 known.1 known.2)
+        ∙ ap (λ (z : Triple). answered (first ((not (is_some (found t triple)), TripleAbsent) ∷ [])) (record { x = triple.x; y = triple.y; number = unwrap_or (found t z) 0 })) (same_triple_lem K l x y q triple known.0 known.1 known.2)

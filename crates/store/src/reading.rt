@@ -43,7 +43,7 @@ impl RelationTable {
             return Ok(None);
         };
         let relation = words.relation;
-        let number = self.links.number_of(Triple { x, relation, y });
+        let number = self.links.link_number(Triple { x, relation, y });
         Ok(number.map(|number| Link { x, y, number }))
     }
 
@@ -60,7 +60,7 @@ impl RelationTable {
     {
         let pair = spell_pair(words)?;
         let triple = known_triple(list, &pair, words.relation)?;
-        let number = self.links.number_of(triple).ok_or(Refusal::TripleAbsent)?;
+        let number = self.links.link_number(triple).ok_or(Refusal::TripleAbsent)?;
         Ok(Link {
             x: triple.x,
             y: triple.y,

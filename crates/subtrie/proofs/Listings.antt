@@ -15,7 +15,7 @@ use Rattle.double_array.proofs.Walks.{number_none}
 use Rattle.double_array.proofs.Spells.{named_of}
 use Rattle.subtrie.specs.Below.{at_found, numbers_below, numbers_from}
 use Rattle.subtrie.specs.Order.{Before}
-use Rattle.subtrie.specs.Laws.{Listed, Members, Ordered}
+use Rattle.subtrie.specs.Laws.{Listed, NumbersBelow, Ordered}
 use Rattle.members.proofs.Members.{in_map, map_in, map_through}
 use Rattle.subtrie.proofs.Orders.{before_front, before_self, rising_map, rising_at}
 use Rattle.subtrie.proofs.Paths.{number_on, below}
@@ -102,7 +102,7 @@ module _ (cs : List Cell) (is : List ℕ) (sound : Sound cs is) (p : List ℕ) w
 
 -- what follows for the numbers
 module _ (cs : List Cell) (p ns : List ℕ) (l : Listed cs p ns) where
-  pub members : Members cs p ns
+  pub members : NumbersBelow cs p ns
   members = record {
     held = λ u i.
         let k = map_in (number_at cs) l.paths (Some u) (subst (λ xs. In xs (Some u)) (sym l.numbers) (in_map Some ns u i)) in

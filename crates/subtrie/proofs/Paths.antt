@@ -10,7 +10,7 @@ use Rattle.cells.specs.Walking.{onward, walk}
 use Rattle.cells.proofs.Basics.{no_some}
 use Rattle.cells.proofs.Walks.{Codes}
 use Rattle.subtrie.specs.Below.{at_found, leaf_or, edge_numbers, numbers_below}
-use Rattle.subtrie.specs.Order.{Before, Rising}
+use Rattle.subtrie.specs.Order.{Before, PathsRise}
 use Rattle.members.proofs.Members.{in_append, in_front, in_rest, in_map, map_in, map_through}
 use Rattle.subtrie.proofs.Orders.{rising_append, rising_map}
 
@@ -22,7 +22,7 @@ number_on cs s p = onward (walk cs s p) (λ t. number (at cs t).base)
 pub record Onward (cs : List Cell) (s left : ℕ) (ns : List ℕ) : Type 0 where
   pub paths : List (List ℕ)
   pub numbers : map (number_on cs s) paths ≡ map Some ns
-  pub rising : Rising paths
+  pub rising : PathsRise paths
   pub codes : (q : List ℕ) → In paths q → Codes q
   pub whole : (q : List ℕ) (u : ℕ) → Codes q → length q ≤ left → number_on cs s q ≡ Some u → In paths q
 
@@ -30,7 +30,7 @@ pub record Onward (cs : List Cell) (s left : ℕ) (ns : List ℕ) : Type 0 where
 pub record Along (cs : List Cell) (s k left : ℕ) (ns : List ℕ) : Type 0 where
   pub paths : List (List ℕ)
   pub numbers : map (number_on cs s) paths ≡ map Some ns
-  pub rising : Rising paths
+  pub rising : PathsRise paths
   pub codes : (q : List ℕ) → In paths q → Codes q
   pub first : (q : List ℕ) → In paths q → (a : ℕ) × (r : List ℕ) × (258 ≤ a + k) × (q ≡ a ∷ r)
   pub whole : (a : ℕ) (r : List ℕ) (u : ℕ) → 258 ≤ a + k → Codes (a ∷ r) → length r ≤ left → number_on cs s (a ∷ r) ≡ Some u → In paths (a ∷ r)

@@ -3,18 +3,18 @@ use Rattle.std.specs.Prelude.{◌≡◌, ℕ, ◌<◌, ◌≤◌, List, ◌++◌
 use Rattle.cells.specs.declared.Cell.{Cell}
 use Rattle.cells.specs.Walking.{number_at}
 use Rattle.members.specs.Lists.{In}
-use Rattle.subtrie.specs.Order.{Before, Rising}
+use Rattle.subtrie.specs.Order.{Before, PathsRise}
 
 -- ns are the numbers of the held paths that begin with p, each path once and in the order of the paths
 pub record Listed (cs : List Cell) (p ns : List ℕ) : Type 0 where
   pub paths : List (List ℕ)
   pub numbers : map (number_at cs) paths ≡ map Some ns
-  pub rising : Rising paths
+  pub rising : PathsRise paths
   pub begin : (q : List ℕ) → In paths q → (r : List ℕ) × (q ≡ p ++ r)
   pub whole : (r : List ℕ) (u : ℕ) → number_at cs (p ++ r) ≡ Some u → In paths (p ++ r)
 
 -- a number is one of ns exactly if some held path that begins with p has it
-pub record Members (cs : List Cell) (p ns : List ℕ) : Type 0 where
+pub record NumbersBelow (cs : List Cell) (p ns : List ℕ) : Type 0 where
   pub held : (u : ℕ) → In ns u → (r : List ℕ) × (number_at cs (p ++ r) ≡ Some u)
   pub all : (r : List ℕ) (u : ℕ) → number_at cs (p ++ r) ≡ Some u → In ns u
 

@@ -10,6 +10,6 @@ Before (a ∷ p) [] = ⊥
 Before (a ∷ p) (b ∷ q) = (a < b) ⊎ ((a ≡ b) × Before p q)
 
 -- each path comes before all that follow it
-abbrev pub Rising : List (List ℕ) → Type 0
-Rising [] = Unit {0}
-Rising (p ∷ ps) = ((q : List ℕ) → In ps q → Before p q) × Rising ps
+abbrev pub PathsRise : List (List ℕ) → Type 0
+PathsRise [] = Unit {0}
+PathsRise (p ∷ ps) = ((q : List ℕ) → In ps q → Before p q) × PathsRise ps

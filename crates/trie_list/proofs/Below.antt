@@ -14,7 +14,7 @@ use Rattle.members.proofs.Members.{in_at}
 use Rattle.double_array.specs.Views.{cells_of, index_of}
 use Rattle.output.specs.Written.{fits, written, Filled}
 use Rattle.subtrie.specs.Order.{Before}
-use Rattle.subtrie.specs.Laws.{Members, Ordered}
+use Rattle.subtrie.specs.Laws.{NumbersBelow, Ordered}
 use Rattle.trie_list.specs.Paths.{path_of_word}
 use Rattle.trie_list.specs.Below.{below_of, WordsBelow}
 use Rattle.trie_list.specs.Trie.{roll_of}
@@ -49,7 +49,7 @@ before_words (a ∷ v) (b ∷ w) (inl h) = inl (omega arith)
 before_words (a ∷ v) (b ∷ w) (inr h) = inr (let z : a ≡ b = omega (arith, h.0) in z, before_words v w h.1)
 
 -- the numbers that are written, in words of the roll
-module _ (s : TrieList) (b : List ℕ) (m : Members (cells_of s.array) (path_of_labels b) (below_of s b)) (o : Ordered (cells_of s.array) (index_of s.array) (below_of s b)) where
+module _ (s : TrieList) (b : List ℕ) (m : NumbersBelow (cells_of s.array) (path_of_labels b) (below_of s b)) (o : Ordered (cells_of s.array) (index_of s.array) (below_of s b)) where
   begins : (u : ℕ) → In (below_of s b) u → (numbered (roll_of s) u ≡ true) × ((q : List ℕ) × (word_of (roll_of s) u ≡ b ++ q))
   begins u i =
       let held = m.held u i in
@@ -88,12 +88,12 @@ module _ (s : TrieList) (b : List ℕ) (m : Members (cells_of s.array) (path_of_
   }
 
 -- what the output and the answer are, as functions
-pub record Told (ns out : List ℕ) (o : Option ℕ) (after : List ℕ) : Type 0 where
+pub record BelowTold (ns out : List ℕ) (o : Option ℕ) (after : List ℕ) : Type 0 where
   pub answer : ok_or o OutputTooShort ≡ cond (fits out 0 ns) (Ok (length ns)) (Err OutputTooShort)
   pub output : after ≡ cond (fits out 0 ns) (written out 0 ns) out
   pub within : IfOk {E = ListFault} (ok_or o OutputTooShort) (λ n. n ≤ length out)
 
-pub told : (ns out : List ℕ) (o : Option ℕ) (after : List ℕ) → Filled ns out o after → Told ns out o after
+pub told : (ns out : List ℕ) (o : Option ℕ) (after : List ℕ) → Filled ns out o after → BelowTold ns out o after
 told ns out None after (short, same) =
     let misfit : fits out 0 ns ≡ false = lt-leb (0 + length ns) (length out) (omega arith) in
     record {

@@ -20,19 +20,19 @@ use Rattle.cells.specs.Placing.{Arrays, enter}
 use Rattle.cells.specs.Walking.{number_at}
 use Rattle.cells.proofs.Basics.{no_some, some_same}
 use Rattle.cells.proofs.Climbs.{number_held, held_number, number_positive, reach_codes}
-use Rattle.double_array.specs.Entries.{is_path, is_open, is_unblocked, no_place, refusal}
+use Rattle.double_array.specs.Entries.{is_path, is_open, is_unblocked, place_fault, refusal}
 use Rattle.double_array.specs.Spellings.{is_known, unwritten}
 use Rattle.double_array.specs.Views.{cells_of, index_of}
 use Rattle.double_array.proofs.Blocks.{Kind, unblocked}
 use Rattle.double_array.proofs.Refusals.{judged_by}
 use Rattle.trie_list.specs.Paths.{path_of_word, labels_on, ends_once, word_path}
-use Rattle.trie_list.specs.Rolls.{path_at, Numbered, Unnumbered, NumbersWithin, Worded}
-use Rattle.trie_list.specs.Trie.{roll_of, room_of, Walked, Placed, Appends}
+use Rattle.trie_list.specs.Rolls.{path_at, HaveLeaves, HaveNoLeaves, NumbersWithin, Worded}
+use Rattle.trie_list.specs.Trie.{roll_of, room_of, Walked, ArraysEntered, Appends}
 use Rattle.trie_list.specs.declared.list.TrieList.{TrieList}
 use Rattle.trie_list.proofs.PathsLemmas.{length_path, word_path_size, path_codes, ends_path, ends_alone}
-use Rattle.trie_list.proofs.RollsLemmas.{Listed, path_number, number_path, path_word, length_words, get_d_words, words_lawful, number_is}
+use Rattle.trie_list.proofs.RollsLemmas.{HoldsWords, path_number, number_path, path_word, length_words, get_d_words, words_lawful, number_is}
 
-pub listed : (s : TrieList) → Listed (cells_of s.array) (index_of s.array) s.count
+pub listed : (s : TrieList) → HoldsWords (cells_of s.array) (index_of s.array) s.count
 listed s = record {
   sound = s.array.sound;
   within = s.within;
@@ -74,8 +74,8 @@ same_list s t p q = λ j. record {
   count = q j;
   within = is_prop→PathP (λ k. q k ≤ length (index_of (p k))) (λ k. le_prop) s.within t.within j;
   few = is_prop→PathP (λ k. length (index_of (p k)) ≤ 65535) (λ k. le_prop) s.few t.few j;
-  numbered = is_prop→PathP (λ k. Numbered (index_of (p k)) (q k)) (λ k. hlevel props) s.numbered t.numbered j;
-  unnumbered = is_prop→PathP (λ k. Unnumbered (index_of (p k)) (q k)) (λ k. hlevel props) s.unnumbered t.unnumbered j;
+  numbered = is_prop→PathP (λ k. HaveLeaves (index_of (p k)) (q k)) (λ k. hlevel props) s.numbered t.numbered j;
+  unnumbered = is_prop→PathP (λ k. HaveNoLeaves (index_of (p k)) (q k)) (λ k. hlevel props) s.unnumbered t.unnumbered j;
   counted = is_prop→PathP (λ k. NumbersWithin (cells_of (p k)) (q k)) (λ k. hlevel props) s.counted t.counted j;
   worded = is_prop→PathP (λ k. Worded (cells_of (p k)) (index_of (p k)) (q k)) (λ k. hlevel props) s.worded t.worded j;
 }
@@ -123,15 +123,15 @@ room_full s w full =
 
 -- what the placing rule leaves, by how many words are counted
 pub placed : (s : TrieList) (w : List ℕ) (t : TrieList)
-    → enter (cells_of s.array) (index_of s.array) (path_of_word w) s.count ≡ Some (record { cells = cells_of t.array; index = index_of t.array }) → Placed s w t
+    → enter (cells_of s.array) (index_of s.array) (path_of_word w) s.count ≡ Some (record { cells = cells_of t.array; index = index_of t.array }) → ArraysEntered s w t
 placed s w t did = record { arrays_after = ap (enter (cells_of s.array) (index_of s.array) (path_of_word w)) (length_roll s) ∙ did }
 
 -- a path that ends with the end sign and nowhere else has it
-abbrev Ends : List ℕ → Type 0
-Ends p = ends_once p ≡ true
+abbrev EndsOnce : List ℕ → Type 0
+EndsOnce p = ends_once p ≡ true
 
 -- all held paths are such, and none goes on after another
-ending : (s : TrieList) → Kind (cells_of s.array) Ends
+ending : (s : TrieList) → Kind (cells_of s.array) EndsOnce
 ending s = record {
   some = both_ways false refl;
   alone = ends_alone;
@@ -166,9 +166,9 @@ module _ (s : TrieList) (w : List ℕ) (sized : label_sized w ≡ true) (absent 
       (eq-eqb (slice_index (index_of s.array) (s.count + 1 - 1)) 0 none)
 
   new_path : is_unblocked (cells_of s.array) (path_of_word w) ≡ true
-  new_path = unblocked (cells_of s.array) (index_of s.array) (listed s).sound Ends (ending s) (path_of_word w) (path_codes w bytes) (ends_path w) none_held
+  new_path = unblocked (cells_of s.array) (index_of s.array) (listed s).sound EndsOnce (ending s) (path_of_word w) (path_codes w bytes) (ends_path w) none_held
 
-  pub judged : refusal (cells_of s.array) (index_of s.array) (path_of_word w) (s.count + 1) ≡ no_place (enter (cells_of s.array) (index_of s.array) (path_of_word w) s.count)
+  pub judged : refusal (cells_of s.array) (index_of s.array) (path_of_word w) (s.count + 1) ≡ place_fault (enter (cells_of s.array) (index_of s.array) (path_of_word w) s.count)
   judged =
       judged_by (cells_of s.array) (index_of s.array) (path_of_word w) (s.count + 1) fine_path open_number new_path
       (enter (cells_of s.array) (index_of s.array) (path_of_word w) s.count) (ap (enter (cells_of s.array) (index_of s.array) (path_of_word w)) next)
@@ -190,8 +190,8 @@ module _ (s : TrieList) (w : List ℕ) (sized : label_sized w ≡ true) (absent 
   refused_place e said = by (enter (cells_of s.array) (index_of s.array) (path_of_word w) s.count) refl
     where
       by : (o : Option Arrays) → enter (cells_of s.array) (index_of s.array) (path_of_word w) s.count ≡ o → (e ≡ NoPlace) × (room_of s w ≡ false)
-      by None none = (some_same e NoPlace (sym said ∙ judged ∙ ap no_place none), room_no none)
-      by (Some xs) did = absurd (no_some e (sym (judged ∙ ap no_place did) ∙ said))
+      by None none = (some_same e NoPlace (sym said ∙ judged ∙ ap place_fault none), room_no none)
+      by (Some xs) did = absurd (no_some e (sym (judged ∙ ap place_fault did) ∙ said))
 
   -- an entry of the slice that was written, with the next number, is one of the word's path
   pub entered_as : (slice : List ℕ) (xs : Arrays) → slice ≡ path_of_word w → enter (cells_of s.array) (index_of s.array) slice (s.count + 1 - 1) ≡ Some xs
@@ -205,16 +205,16 @@ pub append_refused : (s : TrieList) (w : List ℕ) (r : Result ℕ ListFault) (t
 append_refused s w r t e said fault room array count = subst (λ (z : Result ℕ ListFault). Appends s w z t) (sym said) (room, fault, same_list t s array count)
 
 -- what entering a new word says, from what appending it said
-pub record Told (s : TrieList) (w : List ℕ) (r : Result ℕ ListFault) (t : TrieList) : Type 0 where
+pub record AppendTold (s : TrieList) (w : List ℕ) (r : Result ℕ ListFault) (t : TrieList) : Type 0 where
   pub answer : r ≡ enter_answer (roll_of s) (room_of s w) w
-  pub after : EnterLeaves roll_of Placed s w t (is_new_word (roll_of s) (room_of s w) w)
+  pub after : EnterLeaves roll_of ArraysEntered s w t (is_new_word (roll_of s) (room_of s w) w)
 
-pub told : (s : TrieList) (w : List ℕ) (r : Result ℕ ListFault) (t : TrieList) → label_sized w ≡ true → number_of (roll_of s) w ≡ None → Appends s w r t → Told s w r t
+pub told : (s : TrieList) (w : List ℕ) (r : Result ℕ ListFault) (t : TrieList) → label_sized w ≡ true → number_of (roll_of s) w ≡ None → Appends s w r t → AppendTold s w r t
 told s w (Ok n) t sized absent (room, number, placed, grown) = record {
   answer = ap (λ (k : ℕ). Ok k) number ∙ sym (new_answer (roll_of s) (room_of s w) w sized absent room);
-  after = leaves_new roll_of Placed s w t (is_new_word (roll_of s) (room_of s w) w) (new_is (roll_of s) (room_of s w) w sized absent room) placed grown (roll_lawful t);
+  after = leaves_new roll_of ArraysEntered s w t (is_new_word (roll_of s) (room_of s w) w) (new_is (roll_of s) (room_of s w) w sized absent room) placed grown (roll_lawful t);
 }
 told s w (Err e) t sized absent (room, fault, same) = record {
   answer = ap (λ (f : ListFault). Err f) fault ∙ sym (full_answer (roll_of s) (room_of s w) w sized absent room);
-  after = leaves_same roll_of Placed s w t (is_new_word (roll_of s) (room_of s w) w) (full_is (roll_of s) (room_of s w) w sized absent room) same;
+  after = leaves_same roll_of ArraysEntered s w t (is_new_word (roll_of s) (room_of s w) w) (full_is (roll_of s) (room_of s w) w sized absent room) same;
 }

@@ -20,7 +20,7 @@ use Rattle.cells.proofs.Enters.{entering}
 use Rattle.cells.proofs.Numbers.{decides_same}
 use Rattle.cells.proofs.Starts.{indexing}
 use Rattle.trie_list.specs.Paths.{path_of_word, labels_on, word_path}
-use Rattle.trie_list.specs.Rolls.{path_at, word_at, words_of, Numbered, Unnumbered, NumbersWithin, Worded}
+use Rattle.trie_list.specs.Rolls.{path_at, word_at, words_of, HaveLeaves, HaveNoLeaves, NumbersWithin, Worded}
 use Rattle.trie_list.proofs.PathsLemmas.{labels_path, word_path_of, word_path_parts}
 
 -- the word of the number n + 1 stands at the place n
@@ -28,16 +28,16 @@ word_next : (roll : List (List ℕ)) (n : ℕ) → word_of roll (suc n) ≡ slic
 word_next roll n = ap (λ (k : ℕ). get_or roll k []) (let z : suc n - 1 ≡ n = omega arith in z)
 
 -- the cells and the index hold so many words, and nothing else
-pub record Listed (cs : List Cell) (is : List ℕ) (count : ℕ) : Type 0 where
+pub record HoldsWords (cs : List Cell) (is : List ℕ) (count : ℕ) : Type 0 where
   pub sound : Sound cs is
   pub within : count ≤ length is
   pub few : count ≤ 65535
-  pub numbered : Numbered is count
-  pub unnumbered : Unnumbered is count
+  pub numbered : HaveLeaves is count
+  pub unnumbered : HaveNoLeaves is count
   pub counted : NumbersWithin cs count
   pub worded : Worded cs is count
 
-module _ (cs : List Cell) (is : List ℕ) (count : ℕ) (l : Listed cs is count) where
+module _ (cs : List Cell) (is : List ℕ) (count : ℕ) (l : HoldsWords cs is count) where
   -- each number that is counted has its path
   pub path_number : (n : ℕ) → n < count → number_at cs (path_at cs is n) ≡ Some (suc n)
   path_number n h = (indexing cs is n l.sound).leaf (l.numbered n h)
@@ -98,7 +98,7 @@ module _ (cs : List Cell) (is : List ℕ) (count : ℕ) (l : Listed cs is count)
       by (Some (suc n)) b e f = sym (held n e) ∙ f
 
 -- a new word that was entered with the next number is the last of the roll
-module _ (cs : List Cell) (is : List ℕ) (count : ℕ) (l : Listed cs is count) (w : List ℕ) (xs : Arrays)
+module _ (cs : List Cell) (is : List ℕ) (count : ℕ) (l : HoldsWords cs is count) (w : List ℕ) (xs : Arrays)
     (sized : label_sized w ≡ true) (place : count < length is) (few : count < 65535) (did : enter cs is (path_of_word w) count ≡ Some xs) where
   outcome : Enters cs is (path_of_word w) count xs
   outcome = entering cs is (path_of_word w) count xs l.sound (l.unnumbered count (omega arith)) did
@@ -177,7 +177,7 @@ module _ (cs : List Cell) (is : List ℕ) (count : ℕ) (l : Listed cs is count)
       (λ new. omega arith)
       (number_back (path_to xs.cells t) b.0 has)
 
-  pub grown_listed : Listed xs.cells xs.index (count + 1)
+  pub grown_listed : HoldsWords xs.cells xs.index (count + 1)
   grown_listed = record {
     sound = outcome.sound;
     within = omega (arith, outcome.index);

@@ -19,12 +19,12 @@ abbrev pub words_of : List Cell → List ℕ → ℕ → List (List ℕ)
 words_of cs is count = map (word_at cs is) (range_with_len 0 count)
 
 -- each number that is counted has a leaf
-abbrev pub Numbered : List ℕ → ℕ → Type 0
-Numbered is count = (n : ℕ) → n < count → 0 < slice_index is n
+abbrev pub HaveLeaves : List ℕ → ℕ → Type 0
+HaveLeaves is count = (n : ℕ) → n < count → 0 < slice_index is n
 
 -- no other number has one
-abbrev pub Unnumbered : List ℕ → ℕ → Type 0
-Unnumbered is count = (n : ℕ) → count ≤ n → slice_index is n ≡ 0
+abbrev pub HaveNoLeaves : List ℕ → ℕ → Type 0
+HaveNoLeaves is count = (n : ℕ) → count ≤ n → slice_index is n ≡ 0
 
 -- the number of each leaf is counted
 abbrev pub NumbersWithin : List Cell → ℕ → Type 0

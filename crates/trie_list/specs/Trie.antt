@@ -39,12 +39,12 @@ pub record IsNewTrieList (n k : ℕ) (s : TrieList) : Type 0 where
 
 -- the cells and the index of the list t are what the placing rule leaves of those of s when the path of the word is entered
 -- with the next number
-pub record Placed (s : TrieList) (word : List ℕ) (t : TrieList) : Type 0 where
+pub record ArraysEntered (s : TrieList) (word : List ℕ) (t : TrieList) : Type 0 where
   pub arrays_after : enter (cells_of s.array) (index_of s.array) (path_of_word word) (length (roll_of s))
       ≡ Some (record { cells = cells_of t.array; index = index_of t.array })
 
 -- the roll of t ends with the new word if s had room for it, and else t is s and the fault is want of room
 abbrev pub Appends : TrieList → List ℕ → Result ℕ ListFault → TrieList → Type 0
 Appends s word (Ok number) t =
-    (room_of s word ≡ true) × (number ≡ length (roll_of s) + 1) × Placed s word t × (roll_of t ≡ roll_of s ++ word ∷ [])
+    (room_of s word ≡ true) × (number ≡ length (roll_of s) + 1) × ArraysEntered s word t × (roll_of t ≡ roll_of s ++ word ∷ [])
 Appends s word (Err fault) t = (room_of s word ≡ false) × (fault ≡ NoRoom) × (t ≡ s)

@@ -3,7 +3,7 @@ ghost use Rattle.std.specs.Prelude.{◌≡◌, ◌≤◌, true, length, IfOk, No
 ghost use Rattle.lexicon.specs.Rolls.{label_sized, number_of, numbered, word_of};
 ghost use Rattle.double_array.specs.Views.{cells_of, index_of};
 ghost use Rattle.trie_list.specs.Below.{below_of, below_answer, below_output, WordsBelow};
-ghost use Rattle.trie_list.specs.Trie.{roll_of, room_of, IsNewTrieList, Walked, Placed, Appends};
+ghost use Rattle.trie_list.specs.Trie.{roll_of, room_of, IsNewTrieList, Walked, ArraysEntered, Appends};
 
 use super::faults::list_fault;
 use super::list::TrieList;
@@ -136,7 +136,7 @@ impl ReadableList for TrieList {
 impl GrowingList for TrieList {
     ghost room = { room_of };
 
-    ghost enters = { Placed };
+    ghost enters = { ArraysEntered };
 
     #[tactic(auto, using(crate::proofs::Lists::told))]
     fn enter(&mut self, word: &[u8]) -> Result<u16, ListFault> {

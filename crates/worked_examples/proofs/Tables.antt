@@ -10,7 +10,7 @@ use Rattle.link_table.specs.declared.triple.Triple.{Triple}
 use Rattle.history.specs.Kits.{Kit, State}
 use Rattle.history.specs.Calls.{figures_of}
 use Rattle.worked_examples.specs.Triples.{reported, ThreeTies, TripleExamples}
-use Rattle.worked_examples.proofs.Triples.{triple, link, Known, starts, counted, tied, stuck, taken}
+use Rattle.worked_examples.proofs.Triples.{triple, link, KnownState, starts, counted, tied, stuck, taken}
 
 -- the cells of a table of n cells after the first triple got the number u + 1
 abbrev one_in : ℕ → ℕ → List Cell
@@ -54,7 +54,7 @@ module _ {S L R : Type 0} (K : Kit S L R) where
     two : run.two_answer ≡ Ok (link 1 2 v)
     three : run.three_answer ≡ Ok (link 1 3 w)
     second : found run.after.table (triple 1 5 2) ≡ Some v
-    known : Known K run.fresh.store.list run.after (three_in (u - 1) (v - 1) (w - 1)) 3
+    known : KnownState K run.fresh.store.list run.after (three_in (u - 1) (v - 1) (w - 1)) 3
 
   all_in : (run : ThreeTies K 13) → AllIn run
   unfolding codes_below moved_list

@@ -42,13 +42,13 @@ some_cells (Some xs) = refl
 
 module _ {S L R : Type 0} (K : Kit S L R) where
   -- a state has the list l, and a table of three link numbers with the cells cs, of which k are held
-  pub record Known (l : L) (s : State L R) (cs : List Cell) (k : ℕ) : Type 0 where
+  pub record KnownState (l : L) (s : State L R) (cs : List Cell) (k : ℕ) : Type 0 where
     pub list : s.list ≡ l
     pub cells : cells_of s.table.array ≡ cs
     pub held : length (numbers s.table) ≡ k
     pub most : limit s.table ≡ 3
 
-  pub starts : (n : ℕ) (f : NewStore K n) → min n 1048576 ≡ n → Known f.store.list f.store (new_arrays n 3).cells 0
+  pub starts : (n : ℕ) (f : NewStore K n) → min n 1048576 ≡ n → KnownState f.store.list f.store (new_arrays n 3).cells 0
   starts n f small = record {
     list = refl;
     cells = new_cells n (cells_of f.store.table.array) (f.made.cells_long ∙ small) f.made.cells_clear;
@@ -57,10 +57,10 @@ module _ {S L R : Type 0} (K : Kit S L R) where
   }
 
   -- what figures answers
-  pub counted : (l : L) (s : State L R) (cs : List Cell) (k : ℕ) → Known l s cs k → figures_of s.table ≡ record { triples = k; cells = in_use cs }
+  pub counted : (l : L) (s : State L R) (cs : List Cell) (k : ℕ) → KnownState l s cs k → figures_of s.table ≡ record { triples = k; cells = in_use cs }
   counted l s cs k H = λ i. record { triples = H.held i; cells = in_use (H.cells i) }
 
-  module _ (l : L) (s t : State L R) (cs : List Cell) (k : ℕ) (H : Known l s cs k) (a b : ℕ) (x : Word K l a) (y : Word K l b) (q : ℕ) (some : eqb q 0 ≡ false) where
+  module _ (l : L) (s t : State L R) (cs : List Cell) (k : ℕ) (H : KnownState l s cs k) (a b : ℕ) (x : Word K l a) (y : Word K l b) (q : ℕ) (some : eqb q 0 ≡ false) where
     -- lengths and relation are not refused
     fit : (o : Option Refusal) → cond (not (word_sized x.symbols)) (Some (WordLength First)) (cond (not (word_sized y.symbols)) (Some (WordLength Second)) (cond (eqb q 0) (Some RelationZero) o)) ≡ o
     fit o = λ i. cond (not (x.sized i)) (Some (WordLength First)) (cond (not (y.sized i)) (Some (WordLength Second)) (cond (some i) (Some RelationZero) o))
@@ -95,7 +95,7 @@ module _ {S L R : Type 0} (K : Kit S L R) where
     -- the code has a place, whatever the index: the triple is tied
     pub tied : (n : Result Link Refusal) → Tied K s x.symbols y.symbols q n t → is_some (number_at cs (path_of_triple (triple a q b))) ≡ false → eqb k 3 ≡ false
         → (f : ℕ → List Cell) → ((is : List ℕ) (u : ℕ) → cells_in (enter cs is (path_of_triple (triple a q b)) u) ≡ Some (f u))
-        → (u : ℕ) × (n ≡ Ok (link a b u)) × Put s.table (triple a q b) u t.table × Known l t (f (u - 1)) (k + 1)
+        → (u : ℕ) × (n ≡ Ok (link a b u)) × Put s.table (triple a q b) u t.table × KnownState l t (f (u - 1)) (k + 1)
     tied n T absent spare f step =
         let is = index_of s.table.array in
         let has : is_some (enter cs is (path_of_triple (triple a q b)) 0) ≡ true = sym (some_cells (enter cs is (path_of_triple (triple a q b)) 0)) ∙ ap is_some (step is 0) in
@@ -125,7 +125,7 @@ module _ {S L R : Type 0} (K : Kit S L R) where
     -- a present triple is deleted
     pub taken : (n : Result ℕ Refusal) → Deleted K s x.symbols y.symbols q n t → is_some (number_at cs (path_of_triple (triple a q b))) ≡ true
         → (ds : List Cell) → ((is : List ℕ) → cells_in (take_out cs is (path_of_triple (triple a q b))) ≡ Some ds)
-        → (u : ℕ) × (n ≡ Ok u) × Out s.table (triple a q b) u t.table × Known l t ds (k - 1)
+        → (u : ℕ) × (n ≡ Ok u) × Out s.table (triple a q b) u t.table × KnownState l t ds (k - 1)
     taken n D there ds step =
         let held = held_is ∙ there in
         let fine : refusal_of_sought K s.list s.table x.symbols y.symbols q ≡ None =

@@ -10,10 +10,10 @@ use Rattle.cells.proofs.Basics.{some_same}
 use Rattle.double_array.specs.Views.{cells_of, index_of}
 use Rattle.trie_list.specs.Paths.{path_of_word}
 use Rattle.trie_list.specs.Rolls.{words_of}
-use Rattle.trie_list.specs.Trie.{roll_of, room_of, Placed, IsNewTrieList}
+use Rattle.trie_list.specs.Trie.{roll_of, room_of, ArraysEntered, IsNewTrieList}
 use Rattle.trie_list.specs.declared.list.TrieList.{TrieList}
 use Rattle.trie_list.proofs.Lists.{length_roll}
-use Rattle.worked_examples.specs.Examples.{TrieParts, held_by, Enters}
+use Rattle.worked_examples.specs.Examples.{TrieParts, held_by, EntersWord}
 use Rattle.worked_examples.proofs.Starts.{new_cells, new_index}
 
 -- the words of a list, by what it holds
@@ -42,7 +42,7 @@ starts n s small m =
     let index = new_index 3 (index_of s.array) m.index_long m.index_zero in
     λ k. record { cells = cells k; index = index k; count = ap length m.no_words k }
 
-module _ (s t : TrieList) (word : List ℕ) (r : Result ℕ ListFault) (h : Enters s word r t) (v : TrieParts) (e : held_by s ≡ v) where
+module _ (s t : TrieList) (word : List ℕ) (r : Result ℕ ListFault) (h : EntersWord s word r t) (v : TrieParts) (e : held_by s ≡ v) where
   rolls : roll_of s ≡ roll_at v
   rolls = ap (words_of (cells_of s.array) (index_of s.array)) (sym (length_roll s)) ∙ ap roll_at e
 
@@ -59,7 +59,7 @@ module _ (s t : TrieList) (word : List ℕ) (r : Result ℕ ListFault) (h : Ente
   pub entered : (n : ℕ) (xs : Arrays) → answer_at v word ≡ Ok n → new_at v word ≡ true → enter v.cells v.index (path_of_word word) v.count ≡ Some xs
       → (r ≡ Ok n) × (held_by t ≡ record { cells = xs.cells; index = xs.index; count = v.count + 1 })
   entered n xs ok new step =
-      let left = subst (EnterLeaves roll_of Placed s word t) (news ∙ new) h.after in
+      let left = subst (EnterLeaves roll_of ArraysEntered s word t) (news ∙ new) h.after in
       let after : Arrays = record { cells = cells_of t.array; index = index_of t.array } in
       let same : after ≡ xs = some_same after xs (sym left.0.arrays_after ∙ ap (λ (w : TrieParts). enter w.cells w.index (path_of_word word) w.count) e ∙ step) in
       let count = ap length left.1 ∙ length_push (roll_of s) word ∙ ap (λ (w : TrieParts). w.count + 1) e in
@@ -69,5 +69,5 @@ module _ (s t : TrieList) (word : List ℕ) (r : Result ℕ ListFault) (h : Ente
   pub refused : answer_at v word ≡ Err NoRoom → new_at v word ≡ false → (r ≡ Err NoRoom) × (t ≡ s)
   refused err old = (
     h.answer ∙ answers ∙ err,
-    subst (EnterLeaves roll_of Placed s word t) (news ∙ old) h.after,
+    subst (EnterLeaves roll_of ArraysEntered s word t) (news ∙ old) h.after,
   )

@@ -37,7 +37,7 @@ abbrev pub held_by : TrieList → TrieParts
 held_by s = record { cells = cells_of s.array; index = index_of s.array; count = length (readable.roll s) }
 
 -- entering the word into the list s was answered r and left the list t
-pub record Enters (s : TrieList) (word : List ℕ) (r : Result ℕ ListFault) (t : TrieList) : Type 0 where
+pub record EntersWord (s : TrieList) (word : List ℕ) (r : Result ℕ ListFault) (t : TrieList) : Type 0 where
   pub answer : r ≡ enter_answer (readable.roll s) (growing.room s word) word
   pub after : EnterLeaves readable.roll growing.enters s word t (is_new (readable.roll s) (growing.room s word) word)
 
@@ -51,9 +51,9 @@ pub record ThreeWords (n : ℕ) : Type 0 where
   pub b_answer : Result ℕ ListFault
   pub ab_answer : Result ℕ ListFault
   pub made : NewList n 3 fresh
-  pub a_entered : Enters fresh a_word a_answer with_a
-  pub b_entered : Enters with_a b_word b_answer with_b
-  pub ab_entered : Enters with_b ab_word ab_answer with_ab
+  pub a_entered : EntersWord fresh a_word a_answer with_a
+  pub b_entered : EntersWord with_a b_word b_answer with_b
+  pub ab_entered : EntersWord with_b ab_word ab_answer with_ab
 
 -- how a refused answer of a list is reported, none where it is not refused
 abbrev pub list_reported : Result ℕ ListFault → Option Report

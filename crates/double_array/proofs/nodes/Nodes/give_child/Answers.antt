@@ -6,7 +6,7 @@ use Rattle.cells.specs.declared.Cell.{Cell}
 use Rattle.cells.specs.Cells.{base_of, is_free, child_codes, some_code}
 use Rattle.cells.specs.Placing.{Spot, lowest, relocated, index_relocated}
 use Rattle.double_array.proofs.Codes.{codes_within}
-use Rattle.double_array.proofs.Giving.{popped, full_test, none_test, place_far, new_within, child_within, written}
+use Rattle.double_array.proofs.Giving.{popped, full_test, none_test, place_far, new_within, child_within, child_written}
 use Rattle.double_array.proofs.nodes.Nodes.give_child.Goals as goal
 use Rattle.double_array.proofs.nodes.Nodes.give_child.Goals.{After-as_slice-2, else-not-is_empty-via-then-not-is_empty+else-is_free, else-not-is_empty-via-else-not-is_empty}
 
@@ -67,7 +67,7 @@ returns-clause-place c =
     ] in
     let spot : List Cell → List ℕ → Option Spot = λ xs js. Some (record { cells = set xs (b + a) (record { base = to_z w32 (of_z w32 z); check = to_z w32 s }); index = js; spot = b + a }) in
     place_far cs is s a b (found (goal.at.returns-clause-place c).After-as_slice-2) z test
-    ∙ written _ _ s (b + a) z (to_z w32 (of_z w32 z)) (to_z w32 s) (to_z-of_z w32 z c.ranges.base) (to_z_pos w32 s (omega arith))
+    ∙ child_written _ _ s (b + a) z (to_z w32 (of_z w32 z)) (to_z w32 s) (to_z-of_z w32 z c.ranges.base) (to_z_pos w32 s (omega arith))
     ∙ ap (λ l. spot (relocated cs s l b) (index_relocated cs is s l b)) (sym (family (goal.at.returns-clause-place c).After-as_slice-2))
     ∙ ap (λ xs. spot xs (index_relocated cs is s c.as_slice-2.result.now b)) (sym c.move_family.ensures.cells)
     ∙ ap (spot c.move_family.new.self.cells.items) (sym c.move_family.ensures.leaves)

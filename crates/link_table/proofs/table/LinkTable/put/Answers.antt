@@ -6,7 +6,7 @@ use Rattle.double_array.specs.Entries.{Added, EntersPath}
 use Rattle.double_array.specs.Views.{cells_of, index_of}
 use Rattle.link_table.specs.declared.faults.LinkFault.{LinkFault}
 use Rattle.link_table.specs.Tables.{limit, found, numbers, all_held}
-use Rattle.link_table.proofs.Tables.{same_table, none_of, count_few, put_full, put_accepted, put_refused, refused_as, put_fields, put_done}
+use Rattle.link_table.proofs.Tables.{same_table, none_when, count_few, put_full, put_accepted, put_refused, refused_as, put_fields, put_done}
 use Rattle.link_table.proofs.table.LinkTable.put.Goals as goal
 use Rattle.link_table.proofs.table.LinkTable.put.Goals.{After-limit, After-enter}
 
@@ -14,7 +14,7 @@ use Rattle.link_table.proofs.table.LinkTable.put.Goals.{After-limit, After-enter
 absent : (c : After-limit) → found c.args.self.now c.args.triple ≡ None
 absent c =
     let s = c.args.self.now in
-    none_of (found s c.args.triple) (ap is_some (ap (number_at (cells_of s.array)) (sym c.write_code-path.ensures.path) ∙ sym c.number_at.ensures.number) ∙ sym c.is_some.ensures ∙ c.if-is_some.false)
+    none_when (found s c.args.triple) (ap is_some (ap (number_at (cells_of s.array)) (sym c.write_code-path.ensures.path) ∙ sym c.number_at.ensures.number) ∙ sym c.is_some.ensures ∙ c.if-is_some.false)
 
 -- a place of the index is vacant, and not every number is held
 module _ (c : After-enter) where

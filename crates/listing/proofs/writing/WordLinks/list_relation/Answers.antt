@@ -1,6 +1,6 @@
 use Rattle.std.proofs.Common.{◌≡◌, ℕ, ◌+◌, ◌*◌, [], ◌∷◌, get_or, refl, subst, arith}
 use Rattle.listing.specs.Rows.{rows_below}
-use Rattle.listing.specs.Parts.{rows_from, Placed}
+use Rattle.listing.specs.Parts.{rows_from, RowsWritten}
 use Rattle.listing.proofs.Absent.{relation_absent, block_absent}
 use Rattle.listing.proofs.Parts.{below_none, below_next, below_few}
 use Rattle.listing.proofs.Places.{placed_none, placed_as, placed_more}
@@ -21,7 +21,7 @@ list_block-next-requires c =
     omega (arith, l.invariant.ends, c.requires, below_few c.args.self.now.table.now c.args.self.now.x c.args.relation (256 * l.upper))
 
 -- the rows of one upper byte more were placed, or it has none
-one_more : (c : Joined-leads) → Placed c.args.out.now c.args.at (rows_below c.args.self.now.table.now c.args.self.now.x c.args.relation (256 * (c.loop-upper.upper + 1))) c.if-leads.next c.if-leads.out
+one_more : (c : Joined-leads) → RowsWritten c.args.out.now c.args.at (rows_below c.args.self.now.table.now c.args.self.now.x c.args.relation (256 * (c.loop-upper.upper + 1))) c.if-leads.next c.if-leads.out
 one_more c =
     let t = c.args.self.now.table.now in
     let x = c.args.self.now.x in
@@ -45,5 +45,5 @@ loop-upper-preserved c = one_more (goal.at.loop-upper-preserved c).Joined-leads
 pub returns-after-leads : goal.returns-after-leads
 returns-after-leads c =
     let last : c.loop-upper.upper + 1 ≡ 256 = omega arith in
-    subst (λ (n : ℕ). Placed c.args.out.now c.args.at (rows_below c.args.self.now.table.now c.args.self.now.x c.args.relation (256 * n)) c.if-leads.next c.if-leads.out)
+    subst (λ (n : ℕ). RowsWritten c.args.out.now c.args.at (rows_below c.args.self.now.table.now c.args.self.now.x c.args.relation (256 * n)) c.if-leads.next c.if-leads.out)
     last (one_more (goal.at.returns-after-leads c).Joined-leads)

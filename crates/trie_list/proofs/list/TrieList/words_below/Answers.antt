@@ -4,7 +4,7 @@ use Rattle.std.proofs.lemmas.Bool.{cond-true, le-leb}
 use Rattle.double_array.specs.Views.{cells_of, index_of}
 use Rattle.output.specs.Written.{Filled}
 use Rattle.subtrie.specs.Below.{numbers_from}
-use Rattle.subtrie.specs.Laws.{Members, Ordered}
+use Rattle.subtrie.specs.Laws.{NumbersBelow, Ordered}
 use Rattle.trie_list.specs.Below.{below_of}
 use Rattle.trie_list.proofs.Below.{words_below, told, made_always}
 use Rattle.trie_list.proofs.list.TrieList.words_below.Goals as goal
@@ -21,7 +21,7 @@ returns c =
     let fit : leb (length b) 128 ≡ true = le-leb (length b) 128 c.if-beginning-gt128.false in
     let all = told (below_of s b) out c.numbers_below.result c.numbers_below.new.out
     (subst (λ (z : List ℕ). Filled (numbers_from cs z) out c.numbers_below.result c.numbers_below.new.out) slice m.output) in
-    let words = words_below s b (subst (λ (z : List ℕ). Members cs z (numbers_from cs z)) slice m.members) (subst (λ (z : List ℕ). Ordered cs is (numbers_from cs z)) slice m.order) in
+    let words = words_below s b (subst (λ (z : List ℕ). NumbersBelow cs z (numbers_from cs z)) slice m.members) (subst (λ (z : List ℕ). Ordered cs is (numbers_from cs z)) slice m.order) in
     record {
       answer = c.ok_or.ensures.value ∙ all.answer ∙ sym (cond-true (leb (length b) 128) _ _ fit);
       output = all.output ∙ sym (cond-true (leb (length b) 128) _ _ fit);

@@ -2,7 +2,7 @@ use Rattle.std.proofs.Common.{ap, ◌∙◌}
 use Rattle.cells.specs.Walking.{number_at}
 use Rattle.double_array.specs.Views.{cells_of}
 use Rattle.link_table.proofs.Tables.{lawful}
-use Rattle.link_table.proofs.table.LinkTable.number_of.Goals as goal
+use Rattle.link_table.proofs.table.LinkTable.link_number.Goals as goal
 
 pub returns : goal.returns
 returns c =

@@ -21,16 +21,16 @@ use Rattle.members.proofs.Members.{in_map, map_in}
 use Rattle.members.proofs.Filters.{same_from, as_long, kept_map, nth_set, nth_set_other}
 use Rattle.history.proofs.Options.{same_test, some_from}
 
--- the triple of an entry
+-- a present triple
 abbrev pub triple_at : {S L R : Type 0} → Kit S L R → L → PresentTriple S R → Triple
 triple_at K l e = triple_in K l e.x e.y e.relation
 
--- the link number of an entry
-abbrev pub link_of : {S R : Type 0} → PresentTriple S R → ℕ
-link_of e = e.link
+-- the link number of a present triple
+abbrev pub link_at : {S R : Type 0} → PresentTriple S R → ℕ
+link_at e = e.link
 
--- an entry's words and relation are not refused, its record is sound, and the list has both words
-pub record Known {S L R : Type 0} (K : Kit S L R) (l : L) (e : PresentTriple S R) : Type 0 where
+-- a present triple's words and relation are not refused, its record is sound, and the list has both words
+pub record KnownPresent {S L R : Type 0} (K : Kit S L R) (l : L) (e : PresentTriple S R) : Type 0 where
   pub fit : first (word_refusals e.x e.y e.relation) ≡ None
   pub sound : K.good e.kept ≡ true
   pub a : ℕ
@@ -38,23 +38,23 @@ pub record Known {S L R : Type 0} (K : Kit S L R) (l : L) (e : PresentTriple S R
   pub x_number : number_in K l e.x ≡ Some a
   pub y_number : number_in K l e.y ≡ Some b
 
--- an entry stands in a state: the table has its triple with its number, and its record stands at that
+-- a present triple stands in a state: the table has its triple with its number, and its record stands at that
 pub record Stands {S L R : Type 0} (K : Kit S L R) (l : L) (t : LinkTable) (rs : List R) (e : PresentTriple S R) : Type 0 where
-  pub known : Known K l e
+  pub known : KnownPresent K l e
   pub held : found t (triple_at K l e) ≡ Some e.link
   pub kept : slice_get rs (e.link - 1) ≡ Some e.kept
 
--- the entries es and the numbers us handed out are those that the state holds
+-- the present triples es and the numbers us handed out are those that the state holds
 pub record Fits {S L R : Type 0} (K : Kit S L R) (es : List (PresentTriple S R)) (us : List ℕ) (l : L) (t : LinkTable) (rs : List R) : Type 0 where
   pub roll : Lawful (K.roll l)
   -- each number has a record
   pub enough : limit t ≤ length rs
-  -- each entry stands, and each triple of the table is an entry's
+  -- each present triple stands, and each triple of the table is one of them
   pub stands : (e : PresentTriple S R) → In es e → Stands K l t rs e
   pub back : (c : Triple) (u : ℕ) → found t c ≡ Some u → (e : PresentTriple S R) × In es e × (triple_at K l e ≡ c) × (e.link ≡ u)
-  -- the numbers are the entries', no two alike
+  -- the numbers are the present triples', no two alike
   pub unlike : Apart us
-  pub numbers : us ≡ map link_of es
+  pub numbers : us ≡ map link_at es
 
 -- the list l' has the words of l with their numbers
 abbrev pub Grows : {S L R : Type 0} → Kit S L R → L → L → Type 0
@@ -73,8 +73,8 @@ pub same_number : (roll : List (List ℕ)) (v w : List ℕ) (n : ℕ) → number
 same_number roll v w n p q = sym (number_some roll v n p).2 ∙ (number_some roll w n q).2
 
 module _ {S L R : Type 0} (K : Kit S L R) where
-  -- the triple of an entry in its words' numbers
-  pub triple_known : (l : L) (e : PresentTriple S R) (k : Known K l e) → triple_at K l e ≡ record { x = k.a; relation = e.relation; y = k.b }
+  -- a present triple in its words' numbers
+  pub triple_known : (l : L) (e : PresentTriple S R) (k : KnownPresent K l e) → triple_at K l e ≡ record { x = k.a; relation = e.relation; y = k.b }
   triple_known l e k = same_by (number_in K l e.x) (Some k.a) (number_in K l e.y) (Some k.b) e.relation e.relation k.x_number k.y_number refl
 
   -- words that have the same number are the same word
@@ -83,7 +83,7 @@ module _ {S L R : Type 0} (K : Kit S L R) where
       let low = (number_some (K.roll l) (labels_of K v) a e).0 in
       (bytes_eq-Decides (labels_of K v) (labels_of K w)).1 (same_number (K.roll l) (labels_of K v) (labels_of K w) a e (some_from (number_in K l w) a n low))
 
-  -- an entry of these words and relation has their triple of numbers
+  -- a present triple of these words and relation has their triple of numbers
   pub triple_from : (l : L) (x y : List S) (q : ℕ) (e : PresentTriple S R) → same_triple K x y q e ≡ true → triple_at K l e ≡ triple_in K l x y q
   triple_from l x y q e s =
       let one = and_parts (same_word K e.x x) (same_word K e.y y && eqb e.relation q) s in
@@ -93,8 +93,8 @@ module _ {S L R : Type 0} (K : Kit S L R) where
       (ap (number_of (K.roll l)) ((bytes_eq-Decides (labels_of K e.y) (labels_of K y)).0 two.0))
       (eqb-true e.relation q two.1)
 
-  -- and an entry of known words that has their triple of numbers is of these words and relation
-  pub from_triple : (l : L) (x y : List S) (q : ℕ) (e : PresentTriple S R) → Known K l e → triple_at K l e ≡ triple_in K l x y q → same_triple K x y q e ≡ true
+  -- and a present triple of known words that has their triple of numbers is of these words and relation
+  pub from_triple : (l : L) (x y : List S) (q : ℕ) (e : PresentTriple S R) → KnownPresent K l e → triple_at K l e ≡ triple_in K l x y q → same_triple K x y q e ≡ true
   from_triple l x y q e k z =
       let same = sym z ∙ triple_known l e k in
       and_from (same_word K e.x x) (same_word K e.y y && eqb e.relation q)
@@ -106,11 +106,11 @@ module _ {S L R : Type 0} (K : Kit S L R) where
   -- the list grows
   module _ (l l' : L) (grows : Grows K l l') where
     -- known words stay known
-    known_grown : (e : PresentTriple S R) → Known K l e → Known K l' e
+    known_grown : (e : PresentTriple S R) → KnownPresent K l e → KnownPresent K l' e
     known_grown e k = record { fit = k.fit; sound = k.sound; a = k.a; b = k.b; x_number = grows e.x k.a k.x_number; y_number = grows e.y k.b k.y_number }
 
     -- and triples stay the same
-    triple_grown : (e : PresentTriple S R) → Known K l e → triple_at K l' e ≡ triple_at K l e
+    triple_grown : (e : PresentTriple S R) → KnownPresent K l e → triple_at K l' e ≡ triple_at K l e
     triple_grown e k =
         same_by (number_in K l' e.x) (number_in K l e.x) (number_in K l' e.y) (number_in K l e.y) e.relation e.relation
         (grows e.x k.a k.x_number ∙ sym k.x_number) (grows e.y k.b k.y_number ∙ sym k.y_number) refl
@@ -142,7 +142,7 @@ module _ {S L R : Type 0} (K : Kit S L R) where
   }
 
   module _ {es : List (PresentTriple S R)} {us : List ℕ} {l : L} {t : LinkTable} {rs : List R} (F : Fits K es us l t rs) where
-    -- the number of an entry has its triple
+    -- the number of a present triple leads to it
     pub link_coded : (e : PresentTriple S R) → In es e → coded t e.link ≡ Some (triple_at K l e)
     link_coded e i = (lawful t).to_triple (triple_at K l e) e.link (F.stands e i).held
 
@@ -150,30 +150,30 @@ module _ {S L R : Type 0} (K : Kit S L R) where
     pub link_bounds : (e : PresentTriple S R) → In es e → (1 ≤ e.link) × (e.link ≤ limit t)
     link_bounds e i = (lawful t).bounds (triple_at K l e) e.link (link_coded e i)
 
-    -- entries with the same number are the same
+    -- present triples with the same number are the same
     pub same_link : (e f : PresentTriple S R) → In es e → In es f → e.link ≡ f.link → e ≡ f
-    same_link = same_from link_of es (subst Apart F.numbers F.unlike)
+    same_link = same_from link_at es (subst Apart F.numbers F.unlike)
 
-    -- the table holds as many numbers as there are entries
+    -- the table holds as many numbers as there are present triples
     pub counts : length (numbers t) ≡ length es
     counts =
         as_long (numbers t) us (lawful t).apart F.unlike
         (λ u i.
         let c = some_is (coded t u) ((lawful t).present u i) in
         let k = F.back c.0 u ((lawful t).to_number c.0 u c.1) in
-        subst (λ (vs : List ℕ). In vs u) (sym F.numbers) (subst (In (map link_of es)) k.3 (in_map link_of es k.0 k.1)))
+        subst (λ (vs : List ℕ). In vs u) (sym F.numbers) (subst (In (map link_at es)) k.3 (in_map link_at es k.0 k.1)))
         (λ u i.
-        let k = map_in link_of es u (subst (λ (vs : List ℕ). In vs u) F.numbers i) in
+        let k = map_in link_at es u (subst (λ (vs : List ℕ). In vs u) F.numbers i) in
         (lawful t).counted u (ap (λ (v : ℕ). is_some (coded t v)) k.2 ∙ ap is_some (link_coded k.0 k.1)))
-        ∙ ap length F.numbers ∙ length-map es link_of
+        ∙ ap length F.numbers ∙ length-map es link_at
 
     -- a triple is put
-    module _ (x y : List S) (q : ℕ) (r : R) (u : ℕ) (t' : LinkTable) (known : Known K l (present_triple x y q u r)) (put : Put t (triple_in K l x y q) u t') where
-      -- no entry has the new number
+    module _ (x y : List S) (q : ℕ) (r : R) (u : ℕ) (t' : LinkTable) (known : KnownPresent K l (present_triple x y q u r)) (put : Put t (triple_in K l x y q) u t') where
+      -- no present triple has the new number
       other_link : (e : PresentTriple S R) → In es e → e.link ≡ u → ⊥
       other_link e i z = no_some (triple_at K l e) (sym put.number_open ∙ ap (coded t) (sym z) ∙ link_coded e i)
 
-      -- the new entry stands, and so do the others
+      -- the new present triple stands, and so do the others
       put_stands : (e : PresentTriple S R) → In (present_triple x y q u r ∷ es) e → Stands K l t' (set rs (u - 1) r) e
       put_stands e (inl z) = subst (Stands K l t' (set rs (u - 1) r)) (sym z) (record {
         known = known;
@@ -190,7 +190,7 @@ module _ {S L R : Type 0} (K : Kit S L R) where
             kept = nth_set_other rs (u - 1) (e.link - 1) r (λ z. ne (omega (arith, put.number_low))) ∙ h.kept;
           }
 
-      -- the state holds the entry more
+      -- the state holds one present triple more
       pub put_fits : Fits K (present_triple x y q u r ∷ es) (u ∷ us) l t' (set rs (u - 1) r)
       put_fits = record {
         roll = F.roll;
@@ -202,13 +202,13 @@ module _ {S L R : Type 0} (K : Kit S L R) where
             (λ z. (present_triple x y q u r, inl refl, some_same (triple_in K l x y q) c (sym put.here_coded ∙ ap (coded t') (sym z) ∙ is), sym z))
             (λ ne. let k = F.back c v ((lawful t).to_number c v (sym (put.others_coded v ne) ∙ is)) in (k.0, inr k.1, k.2, k.3))
             (cases_eq v u);
-        unlike = (λ i. let k = map_in link_of es u (subst (λ (vs : List ℕ). In vs u) F.numbers i) in other_link k.0 k.1 (sym k.2), F.unlike);
+        unlike = (λ i. let k = map_in link_at es u (subst (λ (vs : List ℕ). In vs u) F.numbers i) in other_link k.0 k.1 (sym k.2), F.unlike);
         numbers = ap (λ (vs : List ℕ). u ∷ vs) F.numbers;
       }
 
     -- a triple is taken out
     module _ (x y : List S) (q : ℕ) (u : ℕ) (t' : LinkTable) (out : Out t (triple_in K l x y q) u t') where
-      -- its entry is the one with its number
+      -- its triple is the one with its number
       by_link : (e : PresentTriple S R) → In es e → eqb e.link u ≡ same_triple K x y q e
       by_link e i = same_test (eqb e.link u) (same_triple K x y q e)
           (λ z.
@@ -216,7 +216,7 @@ module _ {S L R : Type 0} (K : Kit S L R) where
           from_triple l x y q e (F.stands e i).known (some_same (triple_at K l e) (triple_in K l x y q) (sym (link_coded e i) ∙ ap (coded t) (eqb-true e.link u z) ∙ two)))
           (λ z. eq-eqb e.link u (some_same e.link u (sym (F.stands e i).held ∙ ap (found t) (triple_from l x y q e z) ∙ out.had)))
 
-      -- the entries that stay
+      -- the present triples that stay
       abbrev left : List (PresentTriple S R)
       left = filter (λ e. not (same_triple K x y q e)) es
 
@@ -241,21 +241,21 @@ module _ {S L R : Type 0} (K : Kit S L R) where
             (k.0, in_kept (λ e. not (same_triple K x y q e)) es k.0 (not_from_false (same_triple K x y q k.0) no) k.1, k.2, k.3);
         unlike = apart_kept (λ v. not (eqb v u)) us F.unlike;
         numbers = ap (filter (λ v. not (eqb v u))) F.numbers
-            ∙ kept_map link_of (λ v. not (eqb v u)) (λ e. not (same_triple K x y q e)) es (λ e i. ap not (by_link e i));
+            ∙ kept_map link_at (λ v. not (eqb v u)) (λ e. not (same_triple K x y q e)) es (λ e i. ap not (by_link e i));
       }
 
     -- a sound record is written
     module _ (u : ℕ) (r : R) (good : K.good r ≡ true) (c : Triple) (is : coded t u ≡ Some c) where
-      -- the rest of the entry stays
+      -- the rest of the present triple stays
       rewritten_part : {Y : Type 0} (f : PresentTriple S R → Y) → ((e : PresentTriple S R) → f (present_triple e.x e.y e.relation e.link r) ≡ f e) → (e : PresentTriple S R) → f (rewritten u r e) ≡ f e
       rewritten_part f same e = cond_both (eqb e.link u) (present_triple e.x e.y e.relation e.link r) e (λ (z : PresentTriple S R). f z ≡ f e) (λ _. same e) (λ _. refl)
 
       -- so the numbers stay
-      links_same : (ds : List (PresentTriple S R)) → map link_of (map (rewritten u r) ds) ≡ map link_of ds
+      links_same : (ds : List (PresentTriple S R)) → map link_at (map (rewritten u r) ds) ≡ map link_at ds
       links_same [] = refl
-      links_same (e ∷ ds) = ap (λ (v : ℕ). v ∷ map link_of (map (rewritten u r) ds)) (rewritten_part link_of (λ _. refl) e) ∙ ap (λ (vs : List ℕ). e.link ∷ vs) (links_same ds)
+      links_same (e ∷ ds) = ap (λ (v : ℕ). v ∷ map link_at (map (rewritten u r) ds)) (rewritten_part link_at (λ _. refl) e) ∙ ap (λ (vs : List ℕ). e.link ∷ vs) (links_same ds)
 
-      -- each entry stands, with the new record if it has the number
+      -- each present triple stands, with the new record if it has the number
       change_stands : (e : PresentTriple S R) → In es e → Stands K l t (set rs (u - 1) r) (rewritten u r e)
       change_stands e i =
           let h = F.stands e i in
@@ -274,7 +274,7 @@ module _ {S L R : Type 0} (K : Kit S L R) where
             kept = nth_set_other rs (u - 1) (e.link - 1) r (λ w. eqb-false e.link u z (omega (arith, range.0))) ∙ h.kept;
           })
 
-      -- the state holds the entries with the new record
+      -- the state holds the present triples with the new record
       pub change_fits : Fits K (map (rewritten u r) es) us l t (set rs (u - 1) r)
       change_fits = record {
         roll = F.roll;
@@ -282,7 +282,7 @@ module _ {S L R : Type 0} (K : Kit S L R) where
         stands = λ e i. let k = map_in (rewritten u r) es e i in subst (Stands K l t (set rs (u - 1) r)) (sym k.2) (change_stands k.0 k.1);
         back = λ d v f.
             let k = F.back d v f in
-            (rewritten u r k.0, in_map (rewritten u r) es k.0 k.1, rewritten_part (triple_at K l) (λ _. refl) k.0 ∙ k.2, rewritten_part link_of (λ _. refl) k.0 ∙ k.3);
+            (rewritten u r k.0, in_map (rewritten u r) es k.0 k.1, rewritten_part (triple_at K l) (λ _. refl) k.0 ∙ k.2, rewritten_part link_at (λ _. refl) k.0 ∙ k.3);
         unlike = F.unlike;
         numbers = F.numbers ∙ sym (links_same es);
       }
