@@ -63,7 +63,8 @@ two_paths = (3 ∷ 1 ∷ []) ∷ (5 ∷ 1 ∷ []) ∷ []
 abbrev pub two_held : Arrays
 two_held = record {
   cells = with_cells (replicate 10 free_cell) (
-      record { place = 1; base = pos 1; check = 1 } ∷ record { place = 2; base = negsuc 0; check = 4 } ∷ record { place = 3; base = negsuc 1; check = 6 }
+      record { place = 1; base = pos 1; check = 1 } ∷ record { place = 2; base = negsuc 0; check = 4 }
+      ∷ record { place = 3; base = negsuc 1; check = 6 }
       ∷ record { place = 4; base = pos 1; check = 1 } ∷ record { place = 6; base = pos 2; check = 1 } ∷ []);
   index = 2 ∷ 3 ∷ 0 ∷ [];
 }
@@ -78,15 +79,18 @@ pub record Examples : Type 0 where
   -- in 104 cells a, b and ab have a place: the leaf of a moves from 2 to 4, and its index entry follows
   pub fits : enter_all (Some (new_arrays 104 3)) 0 (a_path ∷ b_path ∷ ab_path ∷ []) ≡ Some (record {
     cells = with_cells (replicate 104 free_cell) (
-        record { place = 1; base = pos 1; check = 1 } ∷ record { place = 2; base = negsuc 2; check = 103 } ∷ record { place = 3; base = negsuc 1; check = 101 }
-        ∷ record { place = 4; base = negsuc 0; check = 100 } ∷ record { place = 100; base = pos 3; check = 1 } ∷ record { place = 101; base = pos 2; check = 1 }
+        record { place = 1; base = pos 1; check = 1 } ∷ record { place = 2; base = negsuc 2; check = 103 }
+        ∷ record { place = 3; base = negsuc 1; check = 101 }
+        ∷ record { place = 4; base = negsuc 0; check = 100 } ∷ record { place = 100; base = pos 3; check = 1 }
+        ∷ record { place = 101; base = pos 2; check = 1 }
         ∷ record { place = 103; base = pos 1; check = 100 } ∷ []);
     index = 4 ∷ 3 ∷ 2 ∷ [];
   })
   -- in 103 cells a and b have one, and ab has none
   pub two_fit : enter_all (Some (new_arrays 103 3)) 0 (a_path ∷ b_path ∷ []) ≡ Some (record {
     cells = with_cells (replicate 103 free_cell) (
-        record { place = 1; base = pos 1; check = 1 } ∷ record { place = 2; base = negsuc 0; check = 100 } ∷ record { place = 3; base = negsuc 1; check = 101 }
+        record { place = 1; base = pos 1; check = 1 } ∷ record { place = 2; base = negsuc 0; check = 100 }
+        ∷ record { place = 3; base = negsuc 1; check = 101 }
         ∷ record { place = 100; base = pos 1; check = 1 } ∷ record { place = 101; base = pos 2; check = 1 } ∷ []);
     index = 2 ∷ 3 ∷ 0 ∷ [];
   })
@@ -99,9 +103,11 @@ pub record Examples : Type 0 where
   pub nine : used_then (enter_all (Some (new_arrays 12 3)) 0 (first_path ∷ second_path ∷ [])) ≡ Some 9
   pub no_third : enter_all (Some (new_arrays 12 3)) 0 (first_path ∷ second_path ∷ third_path ∷ []) ≡ None
   -- without the second, seven of the ten are left
-  pub out : used_then (onward (enter_all (Some (new_arrays 13 3)) 0 (first_path ∷ second_path ∷ third_path ∷ [])) (λ xs. take_out xs.cells xs.index second_path)) ≡ Some 7
+  pub out : used_then (onward (enter_all (Some (new_arrays 13 3)) 0 (first_path ∷ second_path ∷ third_path ∷ []))
+      (λ xs. take_out xs.cells xs.index second_path)) ≡ Some 7
   -- an only path is entered and taken out: what is left is the new array
-  pub empty : onward (enter_all (Some (new_arrays 8 3)) 0 (first_path ∷ [])) (λ xs. take_out xs.cells xs.index first_path) ≡ Some (new_arrays 8 3)
+  pub empty : onward (enter_all (Some (new_arrays 8 3)) 0 (first_path ∷ []))
+      (λ xs. take_out xs.cells xs.index first_path) ≡ Some (new_arrays 8 3)
   pub two : enter_all (Some (new_arrays 10 3)) 0 two_paths ≡ Some two_held
   -- climbing from their leaves spells the two paths, and the cells in use are one more than their four beginnings
   pub held : held_paths two_held.cells ≡ two_paths
@@ -110,14 +116,17 @@ pub record Examples : Type 0 where
   -- the root's family moves for a third path: both children, and the CHECK of theirs
   pub family : enter_all (Some two_held) 2 ((1 ∷ []) ∷ []) ≡ Some (record {
     cells = with_cells (replicate 10 free_cell) (
-        record { place = 1; base = pos 4; check = 1 } ∷ record { place = 2; base = negsuc 0; check = 7 } ∷ record { place = 3; base = negsuc 1; check = 9 }
-        ∷ record { place = 5; base = negsuc 2; check = 1 } ∷ record { place = 7; base = pos 1; check = 1 } ∷ record { place = 9; base = pos 2; check = 1 } ∷ []);
+        record { place = 1; base = pos 4; check = 1 } ∷ record { place = 2; base = negsuc 0; check = 7 }
+        ∷ record { place = 3; base = negsuc 1; check = 9 }
+        ∷ record { place = 5; base = negsuc 2; check = 1 } ∷ record { place = 7; base = pos 1; check = 1 }
+        ∷ record { place = 9; base = pos 2; check = 1 } ∷ []);
     index = 2 ∷ 3 ∷ 5 ∷ [];
   })
   -- without the three the root has the BASE 1 again
   pub emptied : out_all (enter_all (Some two_held) 2 ((1 ∷ []) ∷ [])) ((1 ∷ []) ∷ two_paths) ≡ Some (new_arrays 10 3)
   -- two new cells below the root, for which its family moved, are undone
-  pub undone : onward (grow (1 ∷ []) two_held.cells two_held.index 1 1 (pos 0)) (λ r. Some (undo r.cells r.index 1 (base_of two_held.cells 1) 2 r.spot)) ≡ Some two_held
+  pub undone : onward (grow (1 ∷ []) two_held.cells two_held.index 1 1 (pos 0))
+      (λ r. Some (undo r.cells r.index 1 (base_of two_held.cells 1) 2 r.spot)) ≡ Some two_held
   -- two cells are a root and no more, and fewer have none in use
   pub none : enter_all (Some (new_arrays 2 3)) 0 ((1 ∷ []) ∷ []) ≡ None
   pub root : in_use (new_arrays 2 3).cells ≡ 1

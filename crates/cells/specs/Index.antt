@@ -5,7 +5,8 @@ use Rattle.cells.specs.Cells.{at, entry, is_leaf}
 
 -- the entry of each leaf's number, if the index has it, is the leaf's cell
 abbrev pub Leads : List Cell → List ℕ → Type 0
-Leads cs is = (t : ℕ) → is_leaf cs t ≡ true → entry (at cs t).base < length is → slice_index is (entry (at cs t).base) ≡ t
+Leads cs is = (t : ℕ) → is_leaf cs t ≡ true → entry (at cs t).base < length is
+    → slice_index is (entry (at cs t).base) ≡ t
 
 -- an entry that is not 0 is the cell of the leaf of its number
 abbrev pub IndexLeads : List Cell → List ℕ → Type 0

@@ -16,8 +16,10 @@ Searching = (cs : List Cell) (codes : List ℕ) → 0 < length codes → Lowest 
 
 -- walking finds exactly the paths that lead to a cell, and the numbers of those that lead to a leaf
 pub record Walks (cs : List Cell) (p : List ℕ) : Type 0 where
-  pub cell : (t : ℕ) → (cell_at cs p ≡ Some t → Reach cs (turned p []) t) × (Reach cs (turned p []) t → cell_at cs p ≡ Some t)
-  pub leaf : (n : ℕ) → (number_at cs p ≡ Some (suc n) → Held cs (turned p []) n) × (Held cs (turned p []) n → number_at cs p ≡ Some (suc n))
+  pub cell : (t : ℕ) → (cell_at cs p ≡ Some t → Reach cs (turned p []) t)
+      × (Reach cs (turned p []) t → cell_at cs p ≡ Some t)
+  pub leaf : (n : ℕ) → (number_at cs p ≡ Some (suc n) → Held cs (turned p []) n)
+      × (Held cs (turned p []) n → number_at cs p ≡ Some (suc n))
   -- no number is 0
   pub some : number_at cs p ≡ Some 0 → ⊥
 
@@ -40,7 +42,8 @@ pub record Starts (cs : List Cell) (is : List ℕ) : Type 0 where
 
 -- of cells that were all cleared, and an index of zeros
 abbrev pub Starting : Type 0
-Starting = (cs : List Cell) (is : List ℕ) → ((j : ℕ) → j < length cs → at cs j ≡ cleared j) → ((n : ℕ) → slice_index is n ≡ 0) → Starts cs is
+Starting = (cs : List Cell) (is : List ℕ) → ((j : ℕ) → j < length cs → at cs j ≡ cleared j)
+    → ((n : ℕ) → slice_index is n ≡ 0) → Starts cs is
 
 -- the family of s has moved: what was sound is sound, and every path has its number as before
 pub record Relocates (cs : List Cell) (is : List ℕ) (s e : ℕ) : Type 0 where
@@ -49,7 +52,8 @@ pub record Relocates (cs : List Cell) (is : List ℕ) (s e : ℕ) : Type 0 where
 
 -- of a node with children, and a base at which they have free cells
 abbrev pub Relocating : Type 0
-Relocating = (cs : List Cell) (is : List ℕ) (s e : ℕ) → Sound cs is → 0 < parent cs s → some_code (child_codes cs s) ≡ true → 0 < e → Room cs (child_codes cs s) e → Relocates cs is s e
+Relocating = (cs : List Cell) (is : List ℕ) (s e : ℕ) → Sound cs is → 0 < parent cs s
+    → some_code (child_codes cs s) ≡ true → 0 < e → Room cs (child_codes cs s) e → Relocates cs is s e
 
 -- the path p was entered with the number n + 1: it is held in addition, and each other path is as before
 pub record Enters (cs : List Cell) (is : List ℕ) (p : List ℕ) (n : ℕ) (xs : Arrays) : Type 0 where
@@ -61,9 +65,11 @@ pub record Enters (cs : List Cell) (is : List ℕ) (p : List ℕ) (n : ℕ) (xs 
 
 -- of sound cells and a number without a leaf
 abbrev pub Entering : Type 0
-Entering = (cs : List Cell) (is p : List ℕ) (n : ℕ) (xs : Arrays) → Sound cs is → slice_index is n ≡ 0 → enter cs is p n ≡ Some xs → Enters cs is p n xs
+Entering = (cs : List Cell) (is p : List ℕ) (n : ℕ) (xs : Arrays) → Sound cs is → slice_index is n ≡ 0
+    → enter cs is p n ≡ Some xs → Enters cs is p n xs
 
--- after the first new cell was placed, the later ones leave the index and each cell in use as it is, but for that first one
+-- after the first new cell was placed, the later ones leave the index and each cell in use as it is, but for that first
+-- one
 pub record Stays (f r : Spot) : Type 0 where
   pub index : r.index ≡ f.index
   pub cells : (j : ℕ) → 0 < parent f.cells j → (j ≢ f.spot) → at r.cells j ≡ at f.cells j
@@ -76,18 +82,24 @@ pub record Open (cs : List Cell) (s : ℕ) (codes : List ℕ) : Type 0 where
 
 -- at most one family moves while a path grows from s, that of s
 abbrev pub Moving : Type 0
-Moving = (cs : List Cell) (is : List ℕ) (s a b : ℕ) (more : List ℕ) (z : ℤ) (f r : Spot) → Sound cs is → Open cs s (a ∷ b ∷ more) → child cs s a ≡ None
+Moving = (cs : List Cell) (is : List ℕ) (s a b : ℕ) (more : List ℕ) (z : ℤ) (f r : Spot) → Sound cs is
+    → Open cs s (a ∷ b ∷ more) → child cs s a ≡ None
     → place cs is s a (pos 0) ≡ Some f → grow more f.cells f.index f.spot b z ≡ Some r → Stays f r
 
 -- what grew is undone exactly: each cell and each index entry is as it was
 abbrev pub Undoing : Type 0
-Undoing = (cs : List Cell) (is : List ℕ) (s a : ℕ) (more : List ℕ) (z : ℤ) (r : Spot) → Sound cs is → Open cs s (a ∷ more) → child cs s a ≡ None
-    → grow more cs is s a z ≡ Some r → undo r.cells r.index s (base_of cs s) (1 + length more) r.spot ≡ record { cells = cs; index = is }
+Undoing = (cs : List Cell) (is : List ℕ) (s a : ℕ) (more : List ℕ) (z : ℤ) (r : Spot) → Sound cs is
+    → Open cs s (a ∷ more) → child cs s a ≡ None
+    → grow more cs is s a z ≡ Some r
+    → undo r.cells r.index s (base_of cs s) (1 + length more) r.spot ≡ record { cells = cs; index = is }
 
 -- so a path that was entered is taken back exactly, once its number's entry is 0 again
 abbrev pub TakingBack : Type 0
-TakingBack = (cs : List Cell) (is : List ℕ) (s a : ℕ) (more : List ℕ) (n : ℕ) (r : Spot) → Sound cs is → Open cs s (a ∷ more) → child cs s a ≡ None → slice_index is n ≡ 0
-    → grow more cs is s a (negsuc n) ≡ Some r → undo r.cells (slice_set (slice_set r.index n r.spot) n 0) s (base_of cs s) (1 + length more) r.spot ≡ record { cells = cs; index = is }
+TakingBack = (cs : List Cell) (is : List ℕ) (s a : ℕ) (more : List ℕ) (n : ℕ) (r : Spot) → Sound cs is
+    → Open cs s (a ∷ more) → child cs s a ≡ None → slice_index is n ≡ 0
+    → grow more cs is s a (negsuc n) ≡ Some r
+    → undo r.cells (slice_set (slice_set r.index n r.spot) n 0) s (base_of cs s)
+    (1 + length more) r.spot ≡ record { cells = cs; index = is }
 
 -- the path p was taken out: it is no longer held, and each other path is as before
 pub record TakesOut (cs : List Cell) (is : List ℕ) (p : List ℕ) (xs : Arrays) : Type 0 where
@@ -112,11 +124,13 @@ pub record Climbs (cs : List Cell) (p : List ℕ) (t : ℕ) : Type 0 where
 
 -- of sound cells, two or more
 abbrev pub Climbing : Type 0
-Climbing = (cs : List Cell) (is p : List ℕ) (t : ℕ) → 1 < length cs → Sound cs is → cell_at cs p ≡ Some t → Climbs cs p t
+Climbing = (cs : List Cell) (is p : List ℕ) (t : ℕ) → 1 < length cs → Sound cs is → cell_at cs p ≡ Some t
+    → Climbs cs p t
 
 -- the index leads the number n + 1 to its leaf, from which climbing spells its path; without a leaf it has 0
 pub record Indexes (cs : List Cell) (is : List ℕ) (n : ℕ) : Type 0 where
-  pub path : (p : List ℕ) → number_at cs p ≡ Some (suc n) → n < length is → (0 < slice_index is n) × (path_to cs (slice_index is n) ≡ p)
+  pub path : (p : List ℕ) → number_at cs p ≡ Some (suc n) → n < length is → (0 < slice_index is n)
+      × (path_to cs (slice_index is n) ≡ p)
   pub leaf : 0 < slice_index is n → number_at cs (path_to cs (slice_index is n)) ≡ Some (suc n)
 
 -- of sound cells
@@ -132,9 +146,11 @@ pub record Holds (cs : List Cell) (ks : List (List ℕ)) : Type 0 where
 abbrev pub Holding : Type 0
 Holding = (cs : List Cell) (is : List ℕ) → Sound cs is → Holds cs (held_paths cs)
 
--- the cells in use are one more than the different non-empty beginnings of the held paths, in an array of two cells or more
+-- the cells in use are one more than the different non-empty beginnings of the held paths, in an array of two cells or
+-- more
 abbrev pub Counting : Type 0
-Counting = (cs : List Cell) (is : List ℕ) (ks : List (List ℕ)) → 1 < length cs → Sound cs is → Holds cs ks → in_use cs ≡ 1 + length (beginnings ks)
+Counting = (cs : List Cell) (is : List ℕ) (ks : List (List ℕ)) → 1 < length cs → Sound cs is → Holds cs ks
+    → in_use cs ≡ 1 + length (beginnings ks)
 
 -- bs are the different non-empty beginnings of the paths ks
 pub record BeginningsOf (ks bs : List (List ℕ)) : Type 0 where
@@ -162,4 +178,5 @@ Using = (cs : List Cell) (is : List ℕ) → Sound cs is → Uses cs
 
 -- fewer than two cells hold no path and have no place for any, and none of them is counted as in use
 abbrev pub Short : Type 0
-Short = (cs : List Cell) (is p : List ℕ) (n : ℕ) → length cs < 2 → (number_at cs p ≡ None) × (enter cs is p n ≡ None) × (in_use cs ≡ 0)
+Short = (cs : List Cell) (is p : List ℕ) (n : ℕ) → length cs < 2 → (number_at cs p ≡ None) × (enter cs is p n ≡ None)
+    × (in_use cs ≡ 0)

@@ -51,7 +51,9 @@ repointed cs b f t n j = cond (under cs b f n j) (record { base = (at cs j).base
 -- what the cell j holds after the node in the cell f has moved to t, and its children's CHECK has followed
 abbrev pub moved : List Cell → ℕ → ℕ → ℕ → Cell
 moved cs f t j =
-    cond (j == f) free_cell (cond (j == t) (at cs f) (cond (int_lt (pos 0) (at cs f).base) (repointed cs (nat (at cs f).base) f t 258 j) (at cs j)))
+    cond (j == f) free_cell
+    (cond (j == t) (at cs f)
+    (cond (int_lt (pos 0) (at cs f).base) (repointed cs (nat (at cs f).base) f t 258 j) (at cs j)))
 
 -- the cells after the node in f has moved to t
 unfoldable pub moved_list : List Cell → ℕ → ℕ → List Cell
@@ -69,7 +71,8 @@ reindexed is z t = cond (int_lt z (pos 0)) (slice_set is (entry z) t) is
 -- the index after the nodes at the base b, by the codes in their order, have moved to the base e
 abbrev pub index_moves : ℕ → ℕ → List Cell → List ℕ → List ℕ → List ℕ
 index_moves b e cs is [] = is
-index_moves b e cs is (a ∷ more) = index_moves b e (moved_list cs (b + a) (e + a)) (reindexed is (at cs (b + a)).base (e + a)) more
+index_moves b e cs is (a ∷ more) =
+    index_moves b e (moved_list cs (b + a) (e + a)) (reindexed is (at cs (b + a)).base (e + a)) more
 
 -- the cells after s, whose children have the codes, has got the BASE e, to which they move
 abbrev pub relocated : List Cell → ℕ → List ℕ → ℕ → List Cell
@@ -99,36 +102,44 @@ pub record Spot : Type 0 where
 -- a child at the base that was found, none where none was
 abbrev pub placed_at : List Cell → List ℕ → ℕ → List ℕ → ℕ → ℤ → Option ℕ → Option Spot
 placed_at cs is s codes a z None = None
-placed_at cs is s codes a z (Some e) = Some (record { cells = placed cs s codes e a z; index = index_relocated cs is s codes e; spot = e + a })
+placed_at cs is s codes a z (Some e) =
+    Some (record { cells = placed cs s codes e a z; index = index_relocated cs is s codes e; spot = e + a })
 
--- s gets a child by the code a, with the BASE z: at the BASE that s has, if it has children and the cell is free there, and else at the lowest base that suits them all
+-- s gets a child by the code a, with the BASE z: at the BASE that s has, if it has children and the cell is free there,
+-- and else at the lowest base that suits them all
 abbrev pub place : List Cell → List ℕ → ℕ → ℕ → ℤ → Option Spot
 place cs is s a z =
     let codes = child_codes cs s in
     let t = base_of cs s + a in
-    cond (some_code codes && is_free cs t) (Some (record { cells = slice_set cs t (record { base = z; check = pos s }); index = is; spot = t }))
+    cond (some_code codes && is_free cs t)
+    (Some (record { cells = slice_set cs t (record { base = z; check = pos s }); index = is; spot = t }))
     (placed_at cs is s codes a z (lowest cs (codes ++ a ∷ [])))
 
--- s gets a child by a, that one a child by the next of the codes, and so on; the last has the BASE z, and those above it are open (BASE 0) until they get their child
+-- s gets a child by a, that one a child by the next of the codes, and so on; the last has the BASE z, and those above
+-- it are open (BASE 0) until they get their child
 abbrev pub grow : List ℕ → List Cell → List ℕ → ℕ → ℕ → ℤ → Option Spot
 grow [] cs is s a z = place cs is s a z
 grow (b ∷ more) cs is s a z = onward (place cs is s a (pos 0)) (λ r. grow more r.cells r.index r.spot b z)
 
 -- the codes a and more lead from s to a new leaf with the number n + 1
 abbrev pub extend : List ℕ → List Cell → List ℕ → ℕ → ℕ → ℕ → Option Arrays
-extend more cs is s a n = onward (grow more cs is s a (negsuc n)) (λ r. Some (record { cells = r.cells; index = slice_set r.index n r.spot }))
+extend more cs is s a n =
+    onward (grow more cs is s a (negsuc n)) (λ r. Some (record { cells = r.cells; index = slice_set r.index n r.spot }))
 
 -- one answer where nothing was found, and f at what was
 abbrev pub found_or : Option ℕ → Option Arrays → (ℕ → Option Arrays) → Option Arrays
 found_or None o f = o
 found_or (Some t) o f = f t
 
--- the path is entered from s on, with the number n + 1: the edges that are there are followed; at the first code without one s gets the new child, unless s is a leaf
+-- the path is entered from s on, with the number n + 1: the edges that are there are followed; at the first code
+-- without one s gets the new child, unless s is a leaf
 abbrev pub enter_from : List Cell → List ℕ → ℕ → List ℕ → ℕ → Option Arrays
 enter_from cs is s [] n = None
-enter_from cs is s (a ∷ more) n = found_or (child cs s a) (cond (is_leaf cs s) None (extend more cs is s a n)) (λ t. enter_from cs is t more n)
+enter_from cs is s (a ∷ more) n = found_or (child cs s a) (cond (is_leaf cs s) None (extend more cs is s a n))
+    (λ t. enter_from cs is t more n)
 
--- the cells and the index after the path was entered with the number n + 1: none where it has no place, is empty or no path of codes, runs through a leaf, or is there already
+-- the cells and the index after the path was entered with the number n + 1: none where it has no place, is empty or no
+-- path of codes, runs through a leaf, or is there already
 abbrev pub enter : List Cell → List ℕ → List ℕ → ℕ → Option Arrays
 enter cs is p n = cond (all_codes p) (enter_from cs is 1 p n) None
 

@@ -17,7 +17,8 @@ prune (suc n) cs t =
 abbrev pub root_reset : List Cell → List Cell
 root_reset cs = cond (some_code (child_codes cs 1)) cs (slice_set cs 1 root_cell)
 
--- the cells and the index after the leaf t, whose BASE is z, at the end of a path of n codes, was taken out: none where it is no leaf
+-- the cells and the index after the leaf t, whose BASE is z, at the end of a path of n codes, was taken out: none where
+-- it is no leaf
 abbrev pub taken_out : List Cell → List ℕ → ℕ → ℕ → ℤ → Option Arrays
 taken_out cs is n t (pos k) = None
 taken_out cs is n t (negsuc k) = Some (record { cells = root_reset (prune n cs t); index = slice_set is k 0 })

@@ -35,13 +35,15 @@ word_fields fs = cond (length fs == 2) (option_map (λ q. (field fs 0, q)) (numb
 
 -- three fields: X, Y and a relation
 abbrev pub pair_fields : List (List ℕ) → Option (List ℕ × List ℕ × ℕ)
-pair_fields fs = cond (length fs == 3) (option_map (λ q. (field fs 0, field fs 1, q)) (number_read 255 (field fs 2))) None
+pair_fields fs = cond (length fs == 3)
+    (option_map (λ q. (field fs 0, field fs 1, q)) (number_read 255 (field fs 2))) None
 
 -- four fields: X, Y, a relation and a count
 abbrev pub count_fields : List (List ℕ) → Option (List ℕ × List ℕ × ℕ × ℕ)
 count_fields fs =
     cond (length fs == 4)
-    (option_map (λ n. (field fs 0, field fs 1, n.0, n.1)) (option_zip (number_read 255 (field fs 2)) (number_read 4294967295 (field fs 3))))
+    (option_map (λ n. (field fs 0, field fs 1, n.0, n.1))
+    (option_zip (number_read 255 (field fs 2)) (number_read 4294967295 (field fs 3))))
     None
 
 -- an add and a tie, by their fields
@@ -68,4 +70,5 @@ letter_asks l fs =
 
 -- what a line asks for: it has at most 127 bytes, a letter, a tab and the fields
 abbrev pub asked_by : List ℕ → Option Asked
-asked_by line = cond (nat_le (length line) 127 && slice_index line 1 == 9) (letter_asks (slice_index line 0) (fields (drop 2 line))) None
+asked_by line = cond (nat_le (length line) 127 && slice_index line 1 == 9)
+    (letter_asks (slice_index line 0) (fields (drop 2 line))) None

@@ -62,7 +62,7 @@ fn first_tab(text: &[u8]) -> Option<usize>
 
 // The first field and the rest after its tab; none where there is no tab.
 #[tactic(auto, using(crate::proofs::Cuts::fields_none, crate::proofs::Cuts::fields_at))]
-fn cut(text: &[u8]) -> Option<(&[u8], &[u8])>
+fn cut_field(text: &[u8]) -> Option<(&[u8], &[u8])>
     ensures { MatchOption result (fields text.now ≡ text.now ∷ []) (λ p. fields text.now ≡ p.0.now ∷ fields p.1.now) }
 {
     let tab = first_tab(text)?;
@@ -72,18 +72,18 @@ fn cut(text: &[u8]) -> Option<(&[u8], &[u8])>
 // The fields where there are just two.
 #[tactic(auto, using(crate::proofs::Cuts::fields_some))]
 fn two(text: &[u8]) -> Option<(&[u8], &[u8])>
-    ensures { MatchOption result (length (fields text.now) ≢ 2) (λ p. fields text.now ≡ p.0.now ∷ (p.1.now ∷ [])) }
+    ensures { MatchOption result (length (fields text.now) ≢ 2) (λ p. fields text.now ≡ p.0.now ∷ p.1.now ∷ []) }
 {
-    let (first, second) = cut(text)?;
-    cut(second).is_none().then_some((first, second))
+    let (first, second) = cut_field(text)?;
+    cut_field(second).is_none().then_some((first, second))
 }
 
 // The fields where there are just three.
 fn three(text: &[u8]) -> Option<(&[u8], &[u8], &[u8])>
     ensures { MatchOption result (length (fields text.now) ≢ 3)
-        (λ p. fields text.now ≡ p.0.now ∷ (p.1.now ∷ (p.2.now ∷ []))) }
+        (λ p. fields text.now ≡ p.0.now ∷ p.1.now ∷ p.2.now ∷ []) }
 {
-    let (first, rest) = cut(text)?;
+    let (first, rest) = cut_field(text)?;
     let (second, third) = two(rest)?;
     Some((first, second, third))
 }
@@ -92,15 +92,15 @@ fn three(text: &[u8]) -> Option<(&[u8], &[u8], &[u8])>
 // an array of slices, of which a contract names each by its place, and be no plainer.
 fn four(text: &[u8]) -> Option<(&[u8], &[u8], &[u8], &[u8])>
     ensures { MatchOption result (length (fields text.now) ≢ 4)
-        (λ p. fields text.now ≡ p.0.now ∷ (p.1.now ∷ (p.2.now ∷ (p.3.now ∷ [])))) }
+        (λ p. fields text.now ≡ p.0.now ∷ p.1.now ∷ p.2.now ∷ p.3.now ∷ []) }
 {
-    let (first, rest) = cut(text)?;
+    let (first, rest) = cut_field(text)?;
     let (second, third, fourth) = three(rest)?;
     Some((first, second, third, fourth))
 }
 
 // The number that decimal digits with no leading zero write, where it is at most the limit.
-fn number(digits: &[u8], limit: u32) -> Option<u32>
+fn number_read(digits: &[u8], limit: u32) -> Option<u32>
     ensures value { result ≡ number_read limit digits.now }
     ensures bound { IfSome result (λ n. n ≤ limit) }
 {
@@ -126,7 +126,7 @@ fn number(digits: &[u8], limit: u32) -> Option<u32>
 fn relation_in(digits: &[u8]) -> Option<u8>
     ensures { result ≡ number_read 255 digits.now }
 {
-    let n = number(digits, LAST_RELATION)?;
+    let n = number_read(digits, LAST_RELATION)?;
     Some(n as u8)
 }
 
@@ -140,7 +140,7 @@ fn word_fields(rest: &[u8]) -> Option<(&[u8], u8)>
 }
 
 // The triple of X, Y and the digits of a relation.
-fn triple_of<'a>(x: &'a [u8], y: &'a [u8], digits: &[u8]) -> Option<WordTriple<'a, u8>>
+fn word_triple<'a>(x: &'a [u8], y: &'a [u8], digits: &[u8]) -> Option<WordTriple<'a, u8>>
     ensures relation { option_map (λ w. w.relation) result ≡ number_read 255 digits.now }
     ensures words { IfSome result (λ w. (w.x.now ≡ x.now) × (w.y.now ≡ y.now)) }
 {
@@ -152,7 +152,7 @@ fn triple_fields(rest: &[u8]) -> Option<WordTriple<'_, u8>>
     ensures { option_map (λ w. (w.x.now, w.y.now, w.relation)) result ≡ pair_fields (fields rest.now) }
 {
     let (x, y, digits) = three(rest)?;
-    triple_of(x, y, digits)
+    word_triple(x, y, digits)
 }
 
 // The fields of A and T: X, Y, the relation and the count.
@@ -160,8 +160,8 @@ fn count_fields(rest: &[u8]) -> Option<(WordTriple<'_, u8>, u32)>
     ensures { option_map (λ p. (p.0.x.now, p.0.y.now, p.0.relation, p.1)) result ≡ count_fields (fields rest.now) }
 {
     let (x, y, digits, more) = four(rest)?;
-    let words = triple_of(x, y, digits)?;
-    let count = number(more, LAST_COUNT)?;
+    let words = word_triple(x, y, digits)?;
+    let count = number_read(more, LAST_COUNT)?;
     Some((words, count))
 }
 

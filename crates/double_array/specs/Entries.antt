@@ -43,11 +43,14 @@ place_fault (Some xs) = None
 -- the first refusal that applies to the path p and the number u
 abbrev pub refusal : List Cell → List ℕ → List ℕ → ℕ → Option PathFault
 refusal cs is p u =
-    cond (is_path p) (cond (is_open is u) (cond (is_unblocked cs p) (place_fault (enter cs is p (u - 1))) (Some fault.Blocked)) (Some fault.Number)) (Some fault.Path)
+    cond (is_path p) (cond (is_open is u)
+    (cond (is_unblocked cs p) (place_fault (enter cs is p (u - 1))) (Some fault.Blocked)) (Some fault.Number))
+    (Some fault.Path)
 
 -- the path was entered by the placing rule, or it was refused and nothing changes
 abbrev pub EntersPath : List Cell → List ℕ → List ℕ → ℕ → Result (Unit {0}) PathFault → List Cell → List ℕ → Type 0
-EntersPath cs is p u (Ok _) xs js = (refusal cs is p u ≡ None) × (enter cs is p (u - 1) ≡ Some (record { cells = xs; index = js }))
+EntersPath cs is p u (Ok _) xs js = (refusal cs is p u ≡ None)
+    × (enter cs is p (u - 1) ≡ Some (record { cells = xs; index = js }))
 EntersPath cs is p u (Err e) xs js = (refusal cs is p u ≡ Some e) × (xs ≡ cs) × (js ≡ is)
 
 -- the path p is held with the number u, and each other path is as it was

@@ -1,8 +1,8 @@
 -- What the functions on cells leave.
-use Rattle.std.specs.Prelude.{◌≡◌, ℕ, ◌+◌, ◌<◌, cond, List, length, ℤ, Some, None, Option, ◌≢◌, nat_lt}
+use Rattle.std.specs.Prelude.{◌≡◌, ℕ, ◌+◌, ◌<◌, cond, List, length, ℤ, Some, None, Option, ◌≢◌, nat_lt, slice_index}
 use Rattle.cells.specs.declared.Cell.{Cell}
-use Rattle.cells.specs.Cells.{base_of, parent}
-use Rattle.cells.specs.Placing.{place}
+use Rattle.cells.specs.Cells.{base_of, parent, child_codes}
+use Rattle.cells.specs.Placing.{place, freed_up}
 use Rattle.cells.specs.Walking.{number_at}
 use Rattle.cells.specs.Pruning.{take_out}
 use Rattle.cells.specs.Counting.{held_paths, same_path, beginnings}
@@ -18,6 +18,14 @@ abbrev pub Upward : List Cell → Type 0
 Upward cs =
     (t : ℕ) → 0 < parent cs t → (t ≢ 1)
     → (0 < parent cs (parent cs t)) × (base_of cs (parent cs t) < t) × (t < base_of cs (parent cs t) + 258)
+
+-- from the base b on each of the codes has its cell among the first n
+abbrev pub CodesWithin : List ℕ → ℕ → ℕ → Type 0
+CodesWithin codes b n = (k : ℕ) → k < length codes → b + slice_index codes k < n
+
+-- so have the children that s is left with, once n cells from t up are freed
+abbrev pub ReturnsWithin : List Cell → ℕ → ℕ → ℕ → ℕ → Type 0
+ReturnsWithin cs s b n t = CodesWithin (child_codes (freed_up n cs t) s) b (length cs)
 
 -- each parent is a cell
 abbrev pub Parented : List Cell → Type 0

@@ -20,10 +20,12 @@ unwritten cs is u k = cond (is_known is u) (cond (nat_lt k (length (path_of cs i
 
 -- the path of the number u fills the output from its start, or it is refused and nothing is written
 abbrev pub Written : List Cell → List ℕ → ℕ → List ℕ → Result ℕ NumberFault → List ℕ → Type 0
-Written cs is u out (Ok n) after = (unwritten cs is u (length out) ≡ None) × (n ≡ length (path_of cs is u)) × (after ≡ path_of cs is u ++ drop n out)
+Written cs is u out (Ok n) after = (unwritten cs is u (length out) ≡ None) × (n ≡ length (path_of cs is u))
+    × (after ≡ path_of cs is u ++ drop n out)
 Written cs is u out (Err e) after = (unwritten cs is u (length out) ≡ Some e) × (after ≡ out)
 
--- the path of a known number is held with it, and each path that is held with a number of the index is that number's path
+-- the path of a known number is held with it, and each path that is held with a number of the index is that number's
+-- path
 pub record Named (cs : List Cell) (is : List ℕ) (u : ℕ) : Type 0 where
   pub held : is_known is u ≡ true → number_at cs (path_of cs is u) ≡ Some u
   pub only : (p : List ℕ) → number_at cs p ≡ Some u → u ≤ length is → (is_known is u ≡ true) × (path_of cs is u ≡ p)

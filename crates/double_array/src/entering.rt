@@ -1,11 +1,12 @@
 // Entering a path: new cells below the node where it leaves the tree, all undone where one has no place.
 ghost use Rattle.std.specs.Prelude.{◌≡◌, ℕ, ◌+◌, ◌-◌, ◌^◌, ◌<◌, ◌≤◌, length, drop, negsuc, None, slice_index};
-ghost use Rattle.cells.specs.Cells.{child as child_of, child_codes};
+ghost use Rattle.cells.specs.Cells.{child as child_of};
 ghost use Rattle.cells.specs.Placing.{freed_up, undo as undone};
 ghost use Rattle.cells.specs.Invariant.{Sound};
 ghost use Rattle.cells.specs.Laws.{Open};
 ghost use Rattle.double_array.specs.Buffers.{SameBuffers};
-ghost use Rattle.double_array.specs.Outcomes.{Parented};
+ghost use Rattle.double_array.specs.Outcomes.{Parented, ReturnsWithin};
+ghost use Rattle.double_array.specs.Views.{arrays_of};
 ghost use Rattle.double_array.specs.Entries.{follow as followed, is_path, is_open, EntersPath, Extended};
 
 use super::faults::PathFault;
@@ -15,7 +16,7 @@ use cells::Cell;
 
 // What an entry has done so far: the node that got a child, its base before, how many cells are new, and the last of them.
 #[derive(Clone, Copy)]
-struct Growth {
+struct PartialEntry {
     node: usize,
     base: usize,
     new: usize,
@@ -81,17 +82,14 @@ impl Nodes {
 
     // Undoes what an entry has done so far: its new cells are freed, and the family of the node moves back if it is at another
     // base.
-    fn undo(&mut self, grown: Growth)
+    fn undo(&mut self, grown: PartialEntry)
         requires node { grown.node < length self.old.cells.items }
         requires tip { grown.tip < length self.old.cells.items }
         requires base { grown.base < 2 ^ 31 }
         requires parents { Parented self.old.cells.items }
-        requires to { (k : ℕ) → k < length (child_codes (freed_up grown.new self.old.cells.items grown.tip) grown.node) →
-            grown.base + slice_index
-            (child_codes (freed_up grown.new self.old.cells.items grown.tip) grown.node) k < length
-            self.old.cells.items }
-        ensures undone { record { cells = self.new.cells.items; index = self.new.index.items } ≡ undone self.old.cells.items
-            self.old.index.items grown.node grown.base grown.new grown.tip }
+        requires to { ReturnsWithin self.old.cells.items grown.node grown.base grown.new grown.tip }
+        ensures undone { arrays_of self.new
+            ≡ undone self.old.cells.items self.old.index.items grown.node grown.base grown.new grown.tip }
         ensures kept { SameBuffers self.old self.new }
     {
         self.free_up(grown.tip, grown.new);
@@ -121,7 +119,7 @@ impl Nodes {
         for (i, code) in codes.iter().enumerate() {
             let base = if i + 1 < codes.len() { 0 } else { leaf };
             let Some(t) = self.give_child(tip, *code, base) else {
-                self.undo(Growth {
+                self.undo(PartialEntry {
                     node: s,
                     base: before,
                     new: i,

@@ -1,9 +1,9 @@
 // Giving a node a child: the lowest base with room, and the family that moves there.
-ghost use Rattle.std.specs.Prelude.{◌≡◌, ℕ, ◌+◌, ◌^◌, ◌<◌, length, IfSome, slice_index};
+ghost use Rattle.std.specs.Prelude.{◌≡◌, ℕ, ◌+◌, ◌^◌, ◌<◌, length, IfSome};
 ghost use Rattle.cells.specs.Cells.{at, base_of};
 ghost use Rattle.cells.specs.Placing.{lowest, repointed, moved_list, reindexed, moves, index_moves, relocated, index_relocated};
 ghost use Rattle.double_array.specs.Buffers.{SameBuffers};
-ghost use Rattle.double_array.specs.Outcomes.{Given};
+ghost use Rattle.double_array.specs.Outcomes.{Given, CodesWithin};
 
 use super::nodes::Nodes;
 use super::paths::leaf_number;
@@ -78,8 +78,8 @@ impl Nodes {
 
     // Moves the children by these codes from the base `old` to the base `new`.
     fn relocate(&mut self, codes: &[u16], old: usize, new: usize)
-        requires from { (k : ℕ) → k < length codes.now → old + slice_index codes.now k < length self.old.cells.items }
-        requires to { (k : ℕ) → k < length codes.now → new + slice_index codes.now k < length self.old.cells.items }
+        requires from { CodesWithin codes.now old (length self.old.cells.items) }
+        requires to { CodesWithin codes.now new (length self.old.cells.items) }
         ensures cells { self.new.cells.items ≡ moves old new self.old.cells.items codes.now }
         ensures leaves { self.new.index.items ≡ index_moves old new self.old.cells.items self.old.index.items codes.now }
         ensures kept { SameBuffers self.old self.new }
@@ -93,9 +93,8 @@ impl Nodes {
     pub(super) fn move_family(&mut self, s: usize, codes: &[u16], new: usize)
         requires within { s < length self.old.cells.items }
         requires base { new < 2 ^ 31 }
-        requires from { (k : ℕ) → k < length codes.now → base_of self.old.cells.items s + slice_index codes.now k < length
-            self.old.cells.items }
-        requires to { (k : ℕ) → k < length codes.now → new + slice_index codes.now k < length self.old.cells.items }
+        requires from { CodesWithin codes.now (base_of self.old.cells.items s) (length self.old.cells.items) }
+        requires to { CodesWithin codes.now new (length self.old.cells.items) }
         ensures cells { self.new.cells.items ≡ relocated self.old.cells.items s codes.now new }
         ensures leaves { self.new.index.items ≡ index_relocated self.old.cells.items self.old.index.items s codes.now new }
         ensures kept { SameBuffers self.old self.new }

@@ -7,7 +7,7 @@ use Rattle.std.specs.Result.{result_map_both}
 use Rattle.refusal.specs.declared.Report.{Report}
 use Rattle.refusal.specs.Reports.{report_of, report_text}
 use Rattle.script.specs.Words.{word_sized, spelled}
-use Rattle.lexicon.specs.Answers.{is_new}
+use Rattle.lexicon.specs.Answers.{is_new, EnterLeaves}
 use Rattle.lexicon.specs.Rolls.{number_of, word_of, numbered}
 use Rattle.entry.specs.declared.WordEntry.{WordEntry}
 use Rattle.entry.specs.declared.WordEntry.TheVariants.{New, Known}
@@ -22,11 +22,24 @@ held_or_new None false count = Err (NoRoom Neither)
 -- entering a word: a word of no symbol or of more than 32 is refused first
 abbrev pub entry_answer : {S : Type 0} → (S → List ℕ) → List (List ℕ) → Bool → List S → Result WordEntry Refusal
 entry_answer spelling roll room word =
-    cond (word_sized word) (held_or_new (number_of roll (spelled spelling word)) room (length roll)) (Err (WordLength Neither))
+    cond (word_sized word) (held_or_new (number_of roll (spelled spelling word)) room (length roll))
+    (Err (WordLength Neither))
 
 -- the word of symbols becomes the last of the roll: its length is right, the roll lacks it, and there is room
 abbrev pub is_new_word : {S : Type 0} → (S → List ℕ) → List (List ℕ) → Bool → List S → Bool
 is_new_word spelling roll room word = word_sized word && is_new roll room (spelled spelling word)
+
+-- entering a word into a list, by its roll and its room
+abbrev pub entry_in : {S L : Type 0} → (S → List ℕ) → (L → List (List ℕ)) → (L → List ℕ → Bool) → L → List S
+    → Result WordEntry Refusal
+entry_in spelling roll room list word = entry_answer spelling (roll list) (room list (spelled spelling word)) word
+
+-- what entering a word leaves of the list s: the list t, which has the word as its last if it was new, and else is s
+abbrev pub EntryLeaves : {S L : Type 0} → (S → List ℕ) → (L → List (List ℕ)) → (L → List ℕ → Bool)
+    → (L → List ℕ → L → Type 0) → L → List S → L → Type 0
+EntryLeaves spelling roll room enters s word t =
+    EnterLeaves roll enters s (spelled spelling word) t
+    (is_new_word spelling (roll s) (room s (spelled spelling word)) word)
 
 -- the number in an entry
 abbrev pub number_entered : WordEntry → ℕ
@@ -34,11 +47,14 @@ number_entered (New number) = number
 number_entered (Known number) = number
 
 -- the numbers of words before and after a word was entered
-pub record KeepsNumbers {S : Type 0} (spelling : S → List ℕ) (before : List (List ℕ)) (word : List S) (after : List (List ℕ)) (answer : Result WordEntry Refusal) : Type 0 where
+pub record KeepsNumbers {S : Type 0} (spelling : S → List ℕ) (before : List (List ℕ)) (word : List S)
+    (after : List (List ℕ)) (answer : Result WordEntry Refusal) : Type 0 where
   -- every word that had a number has it still
-  pub kept : (v : List S) (n : ℕ) → number_of before (spelled spelling v) ≡ Some n → number_of after (spelled spelling v) ≡ Some n
+  pub kept : (v : List S) (n : ℕ) → number_of before (spelled spelling v) ≡ Some n
+      → number_of after (spelled spelling v) ≡ Some n
   -- a word that has a number had it before, or is the one entered
-  pub only : (v : List S) (n : ℕ) → number_of after (spelled spelling v) ≡ Some n → (number_of before (spelled spelling v) ≡ Some n) ⊎ (v ≡ word)
+  pub only : (v : List S) (n : ℕ) → number_of after (spelled spelling v) ≡ Some n
+      → (number_of before (spelled spelling v) ≡ Some n) ⊎ (v ≡ word)
   -- the word entered has the number that is answered
   pub entered : IfOk answer (λ entry. number_of after (spelled spelling word) ≡ Some (number_entered entry))
 
@@ -53,7 +69,8 @@ label_total roll = sum_by length roll
 -- the text of a line as it was read: without its line feed, which is byte 10; none of no bytes
 abbrev pub text_read : List ℕ → Option (List ℕ)
 text_read [] = None
-text_read (b ∷ more) = let read = b ∷ more in cond (slice_index read (length more) == 10) (Some (take (length more) read)) (Some read)
+text_read (b ∷ more) = let read = b ∷ more in cond (slice_index read (length more) == 10)
+    (Some (take (length more) read)) (Some read)
 
 -- the beginning that a line asks for: what follows a question mark, which is byte 63
 abbrev pub asked_of : List ℕ → Option (List ℕ)

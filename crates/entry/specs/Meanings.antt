@@ -1,7 +1,6 @@
 -- What a reply means to the library's interfaces: what it is made of, and how it is printed.
-use Rattle.std.specs.Prelude.{◌≡◌, Some, Result, ◌↔◌}
-use Rattle.refusal.specs.declared.Refusal.{Refusal}
-use Rattle.entry.specs.declared.WordEntry.{WordEntry}
+use Rattle.std.specs.Prelude.{◌≡◌, Some}
+use Rattle.refusal.specs.Meanings.{Gives}
 use Rattle.entry.specs.declared.EntryReply.{EntryReply}
 use Rattle.entry.specs.Entries.{reply_of, reply_text}
 use Rattle.entry.specs.contracts.EntryReplyDisplay.TheImpl.{ghosts as replies}
@@ -9,5 +8,5 @@ use Rattle.entry.specs.contracts.EntryReplyFromResultWordEntryRefusal.TheImpl.{g
 
 -- a reply is that of the answer, and is printed by its text
 pub record MeaningOfReplies : Type 0 where
-  pub made : (answer : Result WordEntry Refusal) (r : EntryReply) → from_answer.from_gives answer r ↔ (r ≡ reply_of answer)
+  pub made : Gives from_answer.from_gives reply_of
   pub printed : (r : EntryReply) → replies.output r ≡ Some (reply_text r)

@@ -4,12 +4,10 @@
 // The rules stand in docs/WORD_LISTS.md, "Entering a word of a script".
 #![tactic(auto)]
 
-ghost use Rattle.std.specs.Prelude.{◌≡◌, ◌≤◌, ◌&&◌, Some};
+ghost use Rattle.std.specs.Prelude.{◌≡◌, ◌≤◌, Some};
 ghost use Rattle.std.specs.Option.{option_map};
-ghost use Rattle.lexicon.specs.Answers.{EnterLeaves};
 ghost use Rattle.lexicon.specs.Rolls.{Lawful};
-ghost use Rattle.script.specs.Words.{spelled};
-ghost use Rattle.entry.specs.Entries.{entry_answer, is_new_word, KeepsNumbers, labels_at, label_total, text_read, asked_of, reply_of, reply_text};
+ghost use Rattle.entry.specs.Entries.{entry_in, EntryLeaves, KeepsNumbers, labels_at, label_total, text_read, asked_of, reply_of, reply_text};
 
 mod meanings;
 
@@ -30,12 +28,9 @@ pub enum WordEntry {
 // refused, then a new word for which the list has no room; the list is then as it was.
 // Whatever comes, no word that the list had gets another number.
 pub fn enter_word<S: Script, L: GrowingList>(list: &mut L, word: &[S]) -> Result<WordEntry, Refusal>
-    ensures answer { result ≡ entry_answer S.Script.spelling (L.ReadableList.roll list.old)
-        (L.GrowingList.room list.old (spelled S.Script.spelling word.now)) word.now }
-    ensures after { EnterLeaves L.ReadableList.roll L.GrowingList.enters list.old (spelled S.Script.spelling word.now)
-        list.new
-        (is_new_word S.Script.spelling (L.ReadableList.roll list.old)
-        (L.GrowingList.room list.old (spelled S.Script.spelling word.now)) word.now) }
+    ensures answer { result ≡ entry_in S.Script.spelling L.ReadableList.roll L.GrowingList.room list.old word.now }
+    ensures after { EntryLeaves S.Script.spelling L.ReadableList.roll L.GrowingList.room L.GrowingList.enters list.old
+        word.now list.new }
     ensures numbers { KeepsNumbers S.Script.spelling (L.ReadableList.roll list.old) word.now (L.ReadableList.roll list.new)
         result }
 {

@@ -54,7 +54,8 @@ module _ {S L R : Type 0} (K : Kit S L R) where
 
   -- a new triple gets one of the free numbers from 1 to m, u; the rule leaves open which.
   -- The table is what the placing rule leaves, and the record stands at its number
-  pub record LinkMade (s : State L R) (x y : List S) (q : ℕ) (r : R) (n : Result Link Refusal) (t : State L R) : Type 0 where
+  pub record LinkMade (s : State L R) (x y : List S) (q : ℕ) (r : R) (n : Result Link Refusal)
+      (t : State L R) : Type 0 where
     pub u : ℕ
     pub answer : n ≡ Ok (link_in s.list x y u)
     pub list : t.list ≡ s.list
@@ -63,7 +64,8 @@ module _ {S L R : Type 0} (K : Kit S L R) where
 
   -- tie: the triple is entered between known words
   abbrev pub refusal_of_tie : L → LinkTable → List S → List S → ℕ → R → Option Refusal
-  refusal_of_tie l t x y q r = first (tie_refusals x y q (K.good r) (number_in K l x) (number_in K l y) (links_in l t x y q))
+  refusal_of_tie l t x y q r =
+      first (tie_refusals x y q (K.good r) (number_in K l x) (number_in K l y) (links_in l t x y q))
 
   abbrev pub Ties : State L R → List S → List S → ℕ → R → Result Link Refusal → State L R → Type 0
   Ties s x y q r n t = Decided (refusal_of_tie s.list s.table x y q r) s n t (LinkMade s x y q r n t)
@@ -81,20 +83,25 @@ module _ {S L R : Type 0} (K : Kit S L R) where
   fine x y q r = none (first (put_refusals x y q (K.good r)))
 
   abbrev pub refusal_of_add : Growth L → L → L → L → LinkTable → List S → List S → ℕ → R → Option Refusal
-  refusal_of_add G l mid last t x y q r = first (add_refusals x y q (K.good r) (lacks G l x) (lacks G mid y) (links_in last t x y q))
+  refusal_of_add G l mid last t x y q r =
+      first (add_refusals x y q (K.good r) (lacks G l x) (lacks G mid y) (links_in last t x y q))
 
   -- add: first X goes into the list, next Y, and last their triple into the table. A refusal takes no word back
-  pub record Adds (G : Growth L) (s : State L R) (x y : List S) (q : ℕ) (r : R) (n : Result Link Refusal) (t : State L R) : Type 0 where
+  pub record Adds (G : Growth L) (s : State L R) (x y : List S) (q : ℕ) (r : R) (n : Result Link Refusal)
+      (t : State L R) : Type 0 where
     -- the list after X, and after Y
     pub mid : L
     pub last : L
     pub x_entered : EnterLeaves K.roll G.enters s.list (labels_of K x) mid (fine x y q r && grows G s.list x)
-    pub y_entered : EnterLeaves K.roll G.enters mid (labels_of K y) last ((fine x y q r && not (lacks G s.list x)) && grows G mid y)
-    pub result : Decided (refusal_of_add G s.list mid last s.table x y q r) (state_of last s.table s.records) n t (LinkMade (state_of last s.table s.records) x y q r n t)
+    pub y_entered : EnterLeaves K.roll G.enters mid (labels_of K y) last
+        ((fine x y q r && not (lacks G s.list x)) && grows G mid y)
+    pub result : Decided (refusal_of_add G s.list mid last s.table x y q r)
+        (state_of last s.table s.records) n t (LinkMade (state_of last s.table s.records) x y q r n t)
 
   -- delete: the triple's path is pruned, and its number answered; list and records stay
   abbrev pub Deletes : L → LinkTable → List S → List S → ℕ → Result ℕ Refusal → LinkTable → Type 0
-  Deletes l t x y q n t' = Decided (refusal_of_sought l t x y q) t n t' ((u : ℕ) × (n ≡ Ok u) × Out t (triple_in K l x y q) u t')
+  Deletes l t x y q n t' =
+      Decided (refusal_of_sought l t x y q) t n t' ((u : ℕ) × (n ≡ Ok u) × Out t (triple_in K l x y q) u t')
 
   -- find: the link where both words and the triple are there; nothing changes
   abbrev pub link_by : Option ℕ → Option ℕ → Option ℕ → Option Link
@@ -104,7 +111,8 @@ module _ {S L R : Type 0} (K : Kit S L R) where
   link_by (Some a) (Some b) (Some u) = Some (record { x = a; y = b; number = u })
 
   abbrev pub find_of : L → LinkTable → List S → List S → ℕ → Result (Option Link) Refusal
-  find_of l t x y q = answered (first (word_refusals x y q)) (link_by (number_in K l x) (number_in K l y) (found t (triple_in K l x y q)))
+  find_of l t x y q = answered (first (word_refusals x y q))
+      (link_by (number_in K l x) (number_in K l y) (found t (triple_in K l x y q)))
 
   -- change: of the records that of the number is another then, and all else is the same
   abbrev pub refusal_of_change : LinkTable → ℕ → R → Option Refusal
@@ -121,7 +129,9 @@ module _ {S L R : Type 0} (K : Kit S L R) where
   refusal_of_list l t x q places = first (list_refusals x (number_in K l x) places (length (rows_in l t x q)))
 
   abbrev pub Lists : L → LinkTable → List S → ℕ → List LinkRow → Result ℕ Refusal → List LinkRow → Type 0
-  Lists l t x q out n out' = Decided (refusal_of_list l t x q (length out)) out n out' ((n ≡ Ok (length (rows_in l t x q))) × (out' ≡ written out 0 (rows_in l t x q)))
+  Lists l t x q out n out' =
+      Decided (refusal_of_list l t x q (length out)) out n out'
+      ((n ≡ Ok (length (rows_in l t x q))) × (out' ≡ written out 0 (rows_in l t x q)))
 
 -- read: the triple of the number, and the record that stands there; nothing changes
 abbrev pub read_by : {R : Type 0} → Option Triple → Option R → Result (Reading R) Refusal
@@ -153,12 +163,18 @@ replied f (Ok v) = Ok (f v)
 replied f (Err e) = Err e
 
 -- the call was made in the state s with the output `out`, was answered n, and left the state t and the output out'
-abbrev pub Steps : {S L R : Type 0} → Kit S L R → Growth L → State L R → List LinkRow → Call S R → Result (Reply R) Refusal → State L R → List LinkRow → Type 0
-Steps K G s out (add x y q r) n t out' = (m : Result Link Refusal) × (n ≡ replied Linked m) × Adds K G s x y q r m t × (out' ≡ out)
-Steps K G s out (tie x y q r) n t out' = (m : Result Link Refusal) × (n ≡ replied Linked m) × Ties K s x y q r m t × (out' ≡ out)
-Steps K G s out (delete x y q) n t out' = (m : Result ℕ Refusal) × (n ≡ replied Deleted m) × Deletes K s.list s.table x y q m t.table × (t ≡ state_of s.list t.table s.records) × (out' ≡ out)
+abbrev pub Steps : {S L R : Type 0} → Kit S L R → Growth L → State L R → List LinkRow → Call S R
+    → Result (Reply R) Refusal → State L R → List LinkRow → Type 0
+Steps K G s out (add x y q r) n t out' = (m : Result Link Refusal) × (n ≡ replied Linked m) × Adds K G s x y q r m t
+    × (out' ≡ out)
+Steps K G s out (tie x y q r) n t out' = (m : Result Link Refusal) × (n ≡ replied Linked m) × Ties K s x y q r m t
+    × (out' ≡ out)
+Steps K G s out (delete x y q) n t out' = (m : Result ℕ Refusal) × (n ≡ replied Deleted m)
+    × Deletes K s.list s.table x y q m t.table × (t ≡ state_of s.list t.table s.records) × (out' ≡ out)
 Steps K G s out (find x y q) n t out' = (n ≡ replied Found (find_of K s.list s.table x y q)) × (t ≡ s) × (out' ≡ out)
 Steps K G s out (read u) n t out' = (n ≡ replied Read (read_of s.table s.records u)) × (t ≡ s) × (out' ≡ out)
-Steps K G s out (change u r) n t out' = (m : Result (Unit {0}) Refusal) × (n ≡ replied (λ _. Changed) m) × Changes K s.table s.records u r m t.records × (t ≡ state_of s.list s.table t.records) × (out' ≡ out)
-Steps K G s out (list x q) n t out' = (m : Result ℕ Refusal) × (n ≡ replied Listed m) × Lists K s.list s.table x q out m out' × (t ≡ s)
+Steps K G s out (change u r) n t out' = (m : Result (Unit {0}) Refusal) × (n ≡ replied (λ _. Changed) m)
+    × Changes K s.table s.records u r m t.records × (t ≡ state_of s.list s.table t.records) × (out' ≡ out)
+Steps K G s out (list x q) n t out' = (m : Result ℕ Refusal) × (n ≡ replied Listed m)
+    × Lists K s.list s.table x q out m out' × (t ≡ s)
 Steps K G s out figures n t out' = (n ≡ Ok (Counted (figures_of s.table))) × (t ≡ s) × (out' ≡ out)

@@ -44,11 +44,14 @@ abbrev pub link_refusals : Bool → Bool → Bool → List (Bool × Refusal)
 link_refusals held full place = (held, TriplePresent) ∷ (full, NumbersHeld) ∷ (not place, NoPlace) ∷ []
 
 -- add, where a word lacks if it is new and has no room, and `links` are those of the new triple
-abbrev pub add_refusals : {S : Type 0} → List S → List S → ℕ → Bool → Bool → Bool → List (Bool × Refusal) → List (Bool × Refusal)
-add_refusals x y q good lacks_x lacks_y links = put_refusals x y q good ++ (lacks_x, NoRoom First) ∷ (lacks_y, NoRoom Second) ∷ links
+abbrev pub add_refusals : {S : Type 0} → List S → List S → ℕ → Bool → Bool → Bool → List (Bool × Refusal)
+    → List (Bool × Refusal)
+add_refusals x y q good lacks_x lacks_y links =
+    put_refusals x y q good ++ (lacks_x, NoRoom First) ∷ (lacks_y, NoRoom Second) ∷ links
 
 -- tie, with the numbers a and b that the roll has for the words
-abbrev pub tie_refusals : {S : Type 0} → List S → List S → ℕ → Bool → Option ℕ → Option ℕ → List (Bool × Refusal) → List (Bool × Refusal)
+abbrev pub tie_refusals : {S : Type 0} → List S → List S → ℕ → Bool → Option ℕ → Option ℕ → List (Bool × Refusal)
+    → List (Bool × Refusal)
 tie_refusals x y q good a b links = put_refusals x y q good ++ unknown_refusals a b ++ links
 
 -- read, where `has` says that a present triple has the number
@@ -61,4 +64,5 @@ change_refusals has good = (not has, UnknownLink) ∷ (not good, RecordUnsound) 
 
 -- list, with an output of so many places and so many rows to write
 abbrev pub list_refusals : {S : Type 0} → List S → Option ℕ → ℕ → ℕ → List (Bool × Refusal)
-list_refusals x a places rows = length_refusal x First ∷ unknown_refusal a First ∷ (nat_lt places rows, OutputTooShort) ∷ []
+list_refusals x a places rows =
+    length_refusal x First ∷ unknown_refusal a First ∷ (nat_lt places rows, OutputTooShort) ∷ []

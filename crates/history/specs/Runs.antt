@@ -65,12 +65,14 @@ abbrev pub same_triple : {S L R : Type 0} → Kit S L R → List S → List S �
 same_triple K x y q e = same_word K e.x x && (same_word K e.y y && e.relation == q)
 
 -- the triples with the one that was handed a link number
-abbrev pub put_in : {S R : Type 0} → List S → List S → ℕ → R → Option ℕ → List (PresentTriple S R) → List (PresentTriple S R)
+abbrev pub put_in : {S R : Type 0} → List S → List S → ℕ → R → Option ℕ → List (PresentTriple S R)
+    → List (PresentTriple S R)
 put_in x y q r None es = es
 put_in x y q r (Some u) es = present_triple x y q u r ∷ es
 
 -- the triples without this one, if it was accepted that it be taken out
-abbrev pub triples_without : {S L R : Type 0} → Kit S L R → List S → List S → ℕ → Bool → List (PresentTriple S R) → List (PresentTriple S R)
+abbrev pub triples_without : {S L R : Type 0} → Kit S L R → List S → List S → ℕ → Bool → List (PresentTriple S R)
+    → List (PresentTriple S R)
 triples_without K x y q false es = es
 triples_without K x y q true es = filter (λ e. not (same_triple K x y q e)) es
 
@@ -102,14 +104,16 @@ effect_of (list x q) = quiet
 effect_of figures = quiet
 
 -- the triples after an effect that was answered n
-abbrev pub present_by : {S L R : Type 0} → Kit S L R → Effect S R → Result (Reply R) Refusal → List (PresentTriple S R) → List (PresentTriple S R)
+abbrev pub present_by : {S L R : Type 0} → Kit S L R → Effect S R → Result (Reply R) Refusal → List (PresentTriple S R)
+    → List (PresentTriple S R)
 present_by K quiet n es = es
 present_by K (puts_in x y q r) n es = put_in x y q r (handed_by n) es
 present_by K (takes_out x y q) n es = triples_without K x y q (is_ok n) es
 present_by K (gives u r) n es = given u r (is_ok n) es
 
 -- the triples after a call that was answered n
-abbrev pub present_after : {S L R : Type 0} → Kit S L R → Call S R → Result (Reply R) Refusal → List (PresentTriple S R) → List (PresentTriple S R)
+abbrev pub present_after : {S L R : Type 0} → Kit S L R → Call S R → Result (Reply R) Refusal → List (PresentTriple S R)
+    → List (PresentTriple S R)
 present_after K c n es = present_by K (effect_of c) n es
 
 -- the triples that are present after a history, by its arguments and answers alone
@@ -180,8 +184,12 @@ abbrev pub deletes : {S R : Type 0} → History S R → ℕ
 deletes [] = 0
 deletes (e ∷ h) = delete_after e.call (is_ok e.answer) (deletes h)
 
--- the histories that lead from a new store to a state. A store is new when its link table was made for its records; its list
--- may hold words. Each call keeps its rule, refused ones too, whichever words have room and whatever the list's own arrays hold
+-- the histories that lead from a new store to a state. A store is new when its link table was made for its records; its
+-- list may hold words. Each call keeps its rule, refused ones too, whichever words have room and whatever the list's
+-- own arrays hold
 pub data Reached {S L R : Type 0} (K : Kit S L R) : History S R → State L R → Type 0 where
-  new : {l : L} {t : LinkTable} {rs : List R} {n k : ℕ} → Lawful (K.roll l) → IsNewTable n k (length rs) t → Reached K [] (state_of l t rs)
-  after : {h : History S R} {s t : State L R} {c : Call S R} {n : Result (Reply R) Refusal} (room : L → List ℕ → Bool) (out out' : List LinkRow) → Reached K h s → Steps K (any_growth room) s out c n t out' → Reached K (event_of c n ∷ h) t
+  new : {l : L} {t : LinkTable} {rs : List R} {n k : ℕ} → Lawful (K.roll l) → IsNewTable n k (length rs) t
+      → Reached K [] (state_of l t rs)
+  after : {h : History S R} {s t : State L R} {c : Call S R} {n : Result (Reply R) Refusal} (room : L → List ℕ → Bool)
+      (out out' : List LinkRow) → Reached K h s → Steps K (any_growth room) s out c n t out'
+      → Reached K (event_of c n ∷ h) t

@@ -12,11 +12,14 @@ find_answer roll word = cond (label_sized word) (Ok (number_of roll word)) (Err 
 -- spelling the word of a number: how many labels it has; an unknown number is refused, then a short output
 abbrev pub word_answer : List (List ℕ) → ℕ → List ℕ → Result ℕ ListFault
 word_answer roll number out =
-    cond (numbered roll number) (cond (fits out 0 (word_of roll number)) (Ok (length (word_of roll number))) (Err OutputTooShort)) (Err UnknownWord)
+    cond (numbered roll number)
+    (cond (fits out 0 (word_of roll number)) (Ok (length (word_of roll number))) (Err OutputTooShort))
+    (Err UnknownWord)
 
 -- what the output holds then: the word from its start and the rest as it was, or all as it was
 abbrev pub word_output : List (List ℕ) → ℕ → List ℕ → List ℕ
-word_output roll number out = cond (numbered roll number) (cond (fits out 0 (word_of roll number)) (written out 0 (word_of roll number)) out) out
+word_output roll number out =
+    cond (numbered roll number) (cond (fits out 0 (word_of roll number)) (written out 0 (word_of roll number)) out) out
 
 -- entering a word of the right length: the number that it has, or else, with room, the next after the last
 abbrev pub held_or_next : Option ℕ → Bool → ℕ → Result ℕ ListFault
@@ -26,7 +29,8 @@ held_or_next None false count = Err NoRoom
 
 -- entering a word: its number; a spelling of the wrong length is refused, then a new word without room
 abbrev pub enter_answer : List (List ℕ) → Bool → List ℕ → Result ℕ ListFault
-enter_answer roll room word = cond (label_sized word) (held_or_next (number_of roll word) room (length roll)) (Err WordLength)
+enter_answer roll room word = cond (label_sized word) (held_or_next (number_of roll word) room (length roll))
+    (Err WordLength)
 
 -- whether the roll gets the word: its length is right, the roll lacks it, and there is room
 abbrev pub is_new : List (List ℕ) → Bool → List ℕ → Bool

@@ -144,5 +144,5 @@ pub fn write_answer(answer: &Result<LineAnswer, Refusal>, out: &mut [u8]) -> Opt
         return None;
     }
     let text = text_of(answer);
-    output::put(out, 0, text.as_slice())
+    output::write_at(out, 0, text.as_slice())
 }

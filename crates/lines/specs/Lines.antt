@@ -1,8 +1,9 @@
 -- What a line does to a store of tallies over a trie list of byte text, and what is printed.
-use Rattle.std.specs.Prelude.{◌≡◌, ℕ, cond, List, map, take, Some, None, Ok, Err, codes, Option, Result, nat_le}
+use Rattle.std.specs.Prelude.{◌≡◌, ℕ, cond, List, map, length, take, Some, None, Ok, Err, codes, Option, Result, nat_le}
 use Rattle.refusal.specs.declared.Refusal.{Refusal}
-use Rattle.refusal.specs.declared.Refusal.TheVariants.{MalformedLine}
+use Rattle.refusal.specs.declared.Refusal.TheVariants.{MalformedLine, OutputTooShort}
 use Rattle.refusal.specs.Reports.{report_of}
+use Rattle.output.specs.Written.{written}
 use Rattle.script.specs.contracts.alphabets.U8Script.TheImpl.{ghosts as byte_text}
 use Rattle.record.specs.declared.Tally.{Tally}
 use Rattle.record.specs.contracts.TallyRecord.TheImpl.{ghosts as tally_record}
@@ -17,10 +18,9 @@ use Rattle.history.specs.Kits.{Kit, Growth, kit_of, State}
 use Rattle.history.specs.Calls.{Call, Steps, find_of, refusal_of_list, rows_in}
 use Rattle.history.specs.Calls as call
 use Rattle.history.specs.Laws.{Onward}
-use Rattle.store.specs.Links.{link_answer}
 use Rattle.share.specs.Laws.{ShareLaw}
-use Rattle.share.specs.Shares.{count_at, share_answer}
-use Rattle.command.specs.Commands.{Asked, add, tie, delete, find, share, list}
+use Rattle.share.specs.Shares.{count_at, share_in}
+use Rattle.command.specs.Commands.{Asked, asked_by, add, tie, delete, find, share, list}
 use Rattle.line_text.specs.declared.rows.LineRow.{LineRow}
 use Rattle.line_text.specs.Texts.{number_text, three_text, rows_text, report_line}
 
@@ -82,7 +82,8 @@ listed_text records rows (Ok (Deleted u)) = codes "none\n"
 listed_text records rows (Ok (Found link)) = codes "none\n"
 listed_text records rows (Ok (Read reading)) = codes "none\n"
 listed_text records rows (Ok Changed) = codes "none\n"
-listed_text records rows (Ok (Listed k)) = cond (nat_le k 100) (rows_text (map (row_of records) (take k rows))) (codes "none\n")
+listed_text records rows (Ok (Listed k)) = cond (nat_le k 100) (rows_text (map (row_of records) (take k rows)))
+    (codes "none\n")
 listed_text records rows (Ok (Counted pair)) = codes "none\n"
 listed_text records rows (Err f) = refused_text f
 
@@ -91,8 +92,8 @@ abbrev pub share_line : Result ℕ Refusal → List ℕ
 share_line (Ok millionths) = number_text millionths 10
 share_line (Err f) = refused_text f
 
--- the call was made in s by its rule, answered n and left t; and of every history that led to s it leads on to one that leads to
--- t, of which the law holds
+-- the call was made in s by its rule, answered n and left t; and of every history that led to s it leads on to one that
+-- leads to t, of which the law holds
 abbrev pub MakesCall : Store → Call ℕ Tally → Result (Reply Tally) Refusal → Store → Type 0
 MakesCall s c n t =
     ((out out' : List LinkRow) × Steps trie_tally_kit trie_growth s out c n t out') × Onward trie_tally_kit s c n t
@@ -101,11 +102,11 @@ MakesCall s c n t =
 abbrev pub Done : Store → Call ℕ Tally → List ℕ → Store → Type 0
 Done s c text t = (n : Result (Reply Tally) Refusal) × MakesCall s c n t × (text ≡ done_line n)
 
--- a share was answered in s by its rule, it is the share in the counts of the triples that are present after every history that led to
--- s, and `text` is printed
+-- a share was answered in s by its rule, it is the share in the counts of the triples that are present after every
+-- history that led to s, and `text` is printed
 abbrev pub Shared : Store → List ℕ → List ℕ → ℕ → List ℕ → Type 0
 Shared s x y q text =
-    (n : Result ℕ Refusal) × (n ≡ share_answer s.table s.records q (link_answer trie_tally_kit s.list s.table x y q))
+    (n : Result ℕ Refusal) × (n ≡ share_in trie_tally_kit s x y q)
     × ShareLaw trie_tally_kit s x y q n × (text ≡ share_line n)
 
 -- the line that asks for this was carried out in s, left t, and `text` is printed
@@ -115,9 +116,20 @@ Carried s (Some (add x y q c)) text t = Done s (call.add x y q (tally c)) text t
 Carried s (Some (tie x y q c)) text t = Done s (call.tie x y q (tally c)) text t
 Carried s (Some (delete x y q)) text t = Done s (call.delete x y q) text t
 Carried s (Some (find x y q)) text t =
-    ((n : Result (Reply Tally) Refusal) × MakesCall s (call.find x y q) n t) × (text ≡ found_line s.records (find_of trie_tally_kit s.list s.table x y q)) × (t ≡ s)
+    ((n : Result (Reply Tally) Refusal) × MakesCall s (call.find x y q) n t)
+    × (text ≡ found_line s.records (find_of trie_tally_kit s.list s.table x y q)) × (t ≡ s)
 Carried s (Some (list x q)) text t =
     ((n : Result (Reply Tally) Refusal) × MakesCall s (call.list x q) n t)
-    × (text ≡ listing_line (refusal_of_list trie_tally_kit s.list s.table x q 100) (map (row_of s.records) (rows_in trie_tally_kit s.list s.table x q)))
+    × (text ≡ listing_line (refusal_of_list trie_tally_kit s.list s.table x q 100)
+    (map (row_of s.records) (rows_in trie_tally_kit s.list s.table x q)))
     × (t ≡ s)
 Carried s (Some (share x y q)) text t = Shared s x y q text × (t ≡ s)
+
+-- an output that is too short for every text was refused, and store and output are as they were
+abbrev pub RefusedShort : Store → List ℕ → Result ℕ Refusal → Store → List ℕ → Type 0
+RefusedShort s out r t out' = (r ≡ Err OutputTooShort) × (out' ≡ out) × (t ≡ s)
+
+-- a line was carried out, and what is printed was written to the output from its start
+abbrev pub CarriedOut : Store → List ℕ → List ℕ → Result ℕ Refusal → Store → List ℕ → Type 0
+CarriedOut s line out r t out' =
+    (text : List ℕ) × Carried s (asked_by line) text t × (r ≡ Ok (length text)) × (out' ≡ written out 0 text)

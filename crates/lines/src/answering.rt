@@ -6,7 +6,7 @@ ghost use Rattle.command.specs.Commands.{seen, find as find_asked, list as list_
 ghost use Rattle.line_text.specs.Texts.{answer_text};
 ghost use Rattle.lines.specs.Lines.{Carried, Done, found_text, listed_text};
 
-use super::listing_rows::counted;
+use super::listing_rows::counted_rows;
 use command::Command;
 use history::Reply;
 use line_text::{LineAnswer, ROW_PLACES};
@@ -80,7 +80,7 @@ fn listed_answer(
 {
     match reply? {
         Reply::Listed(count) if count <= ROW_PLACES => {
-            Ok(LineAnswer::Listing(counted(records, &rows[..count])))
+            Ok(LineAnswer::Listing(counted_rows(records, &rows[..count])))
         }
         _ => Ok(LineAnswer::Absent),
     }

@@ -8,13 +8,11 @@
 mod answering;
 mod listing_rows;
 
-ghost use Rattle.std.specs.Prelude.{◌≡◌, ℕ, ◌<◌, ◌≤◌, List, length, IfOk, Ok, Err};
-ghost use Rattle.refusal.specs.declared.Refusal.TheVariants.{OutputTooShort};
-ghost use Rattle.output.specs.Written.{written};
+ghost use Rattle.std.specs.Prelude.{◌<◌, ◌≤◌, length, IfOk};
 ghost use Rattle.history.specs.Kits.{state_of};
 ghost use Rattle.command.specs.Commands.{asked_by};
 ghost use Rattle.line_text.specs.Texts.{answer_text};
-ghost use Rattle.lines.specs.Lines.{Carried};
+ghost use Rattle.lines.specs.Lines.{Carried, RefusedShort, CarriedOut};
 
 use answering::answer;
 use command::parse;
@@ -48,11 +46,10 @@ pub fn perform_line(
     line: &[u8],
     out: &mut [u8],
 ) -> Result<usize, Refusal>
-    ensures short { length out.old < 4096 → (result ≡ Err OutputTooShort) × (out.new ≡ out.old) ×
-        (state_of list.new table.new records.new ≡ state_of list.old table.old records.old) }
-    ensures carried { 4096 ≤ length out.old → (text : List ℕ) × Carried (state_of list.old table.old records.old)
-        (asked_by line.now) text (state_of list.new table.new records.new) × (result ≡ Ok (length text)) ×
-        (out.new ≡ written out.old 0 text) }
+    ensures short { length out.old < 4096 → RefusedShort (state_of list.old table.old records.old) out.old result
+        (state_of list.new table.new records.new) out.new }
+    ensures carried { 4096 ≤ length out.old → CarriedOut (state_of list.old table.old records.old) line.now out.old result
+        (state_of list.new table.new records.new) out.new }
     ensures within { IfOk result (λ n. n ≤ length out.old) }
 {
     if out.len() < TEXT_BYTES {

@@ -9,7 +9,7 @@ use record::Tally;
 use share::count_at;
 
 // The rows, each with the count of its link.
-pub(super) fn counted(records: &[Tally], rows: &[LinkRow]) -> LineRows
+pub(super) fn counted_rows(records: &[Tally], rows: &[LinkRow]) -> LineRows
     requires { length rows.now ≤ 100 }
     ensures { printed_rows result ≡ map (row_of records.now) rows.now }
 {

@@ -25,7 +25,8 @@ found s t = number_at (cells_of s.array) (path_of_triple t)
 
 -- the triple of the number u: climbing from the leaf that the index gives
 abbrev pub coded : LinkTable → ℕ → Option Triple
-coded s u = cond (is_known (index_of s.array) u) (Some (triple_of (path_of (cells_of s.array) (index_of s.array) u))) None
+coded s u = cond (is_known (index_of s.array) u)
+    (Some (triple_of (path_of (cells_of s.array) (index_of s.array) u))) None
 
 -- the numbers that present triples have, in rising order
 abbrev pub numbers : LinkTable → List ℕ
@@ -54,7 +55,8 @@ pub record IsConsistent (s : LinkTable) : Type 0 where
   -- every path that is held is a triple's
   pub only : (p : List ℕ) (u : ℕ) → number_at (cells_of s.array) p ≡ Some u → path_of_triple (triple_of p) ≡ p
 
--- a table newly made of n cells, k index entries and so many records: every cell free but the root, every entry 0, and no triple
+-- a table newly made of n cells, k index entries and so many records: every cell free but the root, every entry 0, and
+-- no triple
 pub record IsNewTable (n k records : ℕ) (s : LinkTable) : Type 0 where
   pub cells_long : length (cells_of s.array) ≡ min n 1048576
   pub cells_clear : (j : ℕ) → j < length (cells_of s.array) → at (cells_of s.array) j ≡ cleared j
@@ -66,7 +68,8 @@ pub record IsNewTable (n k records : ℕ) (s : LinkTable) : Type 0 where
 
 -- the table t is s with a triple more, which has the number u: its arrays are what the placing rule leaves
 pub record Put (s : LinkTable) (triple : Triple) (u : ℕ) (t : LinkTable) : Type 0 where
-  pub arrays_after : enter (cells_of s.array) (index_of s.array) (path_of_triple triple) (u - 1) ≡ Some (record { cells = cells_of t.array; index = index_of t.array })
+  pub arrays_after : enter (cells_of s.array) (index_of s.array) (path_of_triple triple)
+      (u - 1) ≡ Some (record { cells = cells_of t.array; index = index_of t.array })
   -- the number is from 1 to the limit, and no present triple has it
   pub number_low : 1 ≤ u
   pub number_high : u ≤ limit s
@@ -81,7 +84,8 @@ pub record Put (s : LinkTable) (triple : Triple) (u : ℕ) (t : LinkTable) : Typ
 
 -- the table t is s without the triple, which had the number u: its arrays are what pruning leaves
 pub record Out (s : LinkTable) (triple : Triple) (u : ℕ) (t : LinkTable) : Type 0 where
-  pub arrays_after : take_out (cells_of s.array) (index_of s.array) (path_of_triple triple) ≡ Some (record { cells = cells_of t.array; index = index_of t.array })
+  pub arrays_after : take_out (cells_of s.array) (index_of s.array)
+      (path_of_triple triple) ≡ Some (record { cells = cells_of t.array; index = index_of t.array })
   pub had : found s triple ≡ Some u
   -- neither is there now, and each other triple and number is as it was
   pub gone : found t triple ≡ None
@@ -93,7 +97,8 @@ pub record Out (s : LinkTable) (triple : Triple) (u : ℕ) (t : LinkTable) : Typ
 
 -- the first refusal of putting a triple that applies: it is present, all numbers are held, or its code has no place
 abbrev pub put_refusal : LinkTable → Triple → Option LinkFault
-put_refusal s t = cond (is_some (found s t)) (Some TriplePresent) (cond (all_held s) (Some NumbersHeld) (cond (has_place s t) None (Some NoPlace)))
+put_refusal s t = cond (is_some (found s t)) (Some TriplePresent)
+    (cond (all_held s) (Some NumbersHeld) (cond (has_place s t) None (Some NoPlace)))
 
 -- a triple was put and has the number u, or it was refused and the table is the very same
 abbrev pub Puts : LinkTable → Triple → Result ℕ LinkFault → LinkTable → Type 0

@@ -13,8 +13,10 @@ unfoldable pub rows_from : LinkTable → ℕ → ℕ → ℕ → ℕ → List Li
 rows_from t x k b zero = []
 rows_from t x k b (suc n) = rows_from t x k b n ++ row (found t (record { x = x; relation = k; y = b + n })) k (b + n)
 
--- the rows were set in the output one after another from `at` on, as far as it has places: they end at `end`, and it then holds `after`
-pub record RowsWritten (out : List LinkRow) (at : ℕ) (rows : List LinkRow) (end : ℕ) (after : List LinkRow) : Type 0 where
+-- the rows were set in the output one after another from `at` on, as far as it has places: they end at `end`, and it
+-- then holds `after`
+pub record RowsWritten (out : List LinkRow) (at : ℕ) (rows : List LinkRow) (end : ℕ)
+    (after : List LinkRow) : Type 0 where
   pub ends : end ≡ at + length rows
   pub holds : after ≡ sets out at rows
 

@@ -36,10 +36,13 @@ Asks (suc q) k = k ≡ suc q
 
 -- a row is listed exactly if the table has its triple with its link number and q asks for its relation
 pub record ListsExactly (t : LinkTable) (x q : ℕ) (rows : List LinkRow) : Type 0 where
-  pub present : (r : LinkRow) → In rows r → (found t (record { x = x; relation = r.relation; y = r.y }) ≡ Some r.link) × Asks q r.relation
-  pub whole : (k b u : ℕ) → found t (record { x = x; relation = k; y = b }) ≡ Some u → Asks q k → In rows (record { relation = k; y = b; link = u })
+  pub present : (r : LinkRow) → In rows r → (found t (record { x = x; relation = r.relation; y = r.y }) ≡ Some r.link)
+      × Asks q r.relation
+  pub whole : (k b u : ℕ) → found t (record { x = x; relation = k; y = b }) ≡ Some u → Asks q k
+      → In rows (record { relation = k; y = b; link = u })
 
--- one row comes before another: its relation is lower, or the relation is the same and its second word's number is lower
+-- one row comes before another: its relation is lower, or the relation is the same and its second word's number is
+-- lower
 abbrev pub Earlier : LinkRow → LinkRow → Type 0
 Earlier r s = (r.relation < s.relation) ⊎ ((r.relation ≡ s.relation) × (r.y < s.y))
 

@@ -9,7 +9,7 @@ ghost use Rattle.output.specs.Written.{fits, written};
 
 // Writes the items from the place `at` on and answers where they end, or none where the output is
 // too short for them; then nothing is written.
-pub fn put<T: Copy>(out: &mut [T], at: usize, items: &[T]) -> Option<usize>
+pub fn write_at<T: Copy>(out: &mut [T], at: usize, items: &[T]) -> Option<usize>
     ensures end { result ≡ (if fits out.old at items.now then Some (at + length items.now) else None) }
     ensures after { out.new ≡ (if fits out.old at items.now then written out.old at items.now else out.old) }
 {

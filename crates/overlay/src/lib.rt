@@ -9,8 +9,9 @@
 #[cfg(test)]
 mod tests;
 
-ghost use Rattle.std.specs.Prelude.{◌≡◌, ℕ, ◌+◌, ◌≤◌, ◌++◌, List, [], cond, length, Some, None, ◌&&◌, ◌==◌, nat_lt, ◌↔◌};
+ghost use Rattle.std.specs.Prelude.{◌≡◌, ℕ, ◌+◌, ◌≤◌, ◌++◌, List, [], cond, length, Some, None, ◌&&◌, ◌==◌, nat_lt};
 ghost use Rattle.lexicon.specs.Rolls.{Lawful};
+ghost use Rattle.overlay.specs.Over.{RollOver, RoomOver, EntersOver};
 
 use lexicon::{GrowingList, ListFault, MAX_WORDS, ReadableList};
 use std::marker::Model;
@@ -99,10 +100,8 @@ impl<L: ReadableList, U: GrowingList> GrowingList for Overlay<L, U> {
 // What the list means to the two interfaces: the words of both lists, room where a number is left and the upper
 // list has room, and an entry into the upper list that leaves the lower as it is.
 pub fn meaning<L: ReadableList, U: GrowingList>()
-    ensures roll { (v : L × U) → ⟦<Overlay<L, U> as ReadableList>⟧.roll v ≡ L.ReadableList.roll v.0 ++ U.ReadableList.roll
-        v.1 }
-    ensures room { (v : L × U) (w : List ℕ) → ⟦<Overlay<L, U> as GrowingList>⟧.room v w ≡
-        (nat_lt (length (L.ReadableList.roll v.0) + length (U.ReadableList.roll v.1)) 65535 && U.GrowingList.room v.1 w) }
-    ensures enters { (s t : L × U) (w : List ℕ) → ⟦<Overlay<L, U> as GrowingList>⟧.enters s w t ↔
-        (U.GrowingList.enters s.1 w t.1 × (t.0 ≡ s.0)) }
+    ensures roll { RollOver L.ReadableList.roll U.ReadableList.roll ⟦<Overlay<L, U> as ReadableList>⟧.roll }
+    ensures room { RoomOver L.ReadableList.roll U.ReadableList.roll U.GrowingList.room
+        ⟦<Overlay<L, U> as GrowingList>⟧.room }
+    ensures enters { EntersOver U.GrowingList.enters ⟦<Overlay<L, U> as GrowingList>⟧.enters }
 {}

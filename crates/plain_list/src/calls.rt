@@ -76,7 +76,7 @@ impl PlainList {
     {
         let at = self.used;
         let index = self.count;
-        let _ = output::put(self.bytes.as_mut_slice(), at, word);
+        let _ = output::write_at(self.bytes.as_mut_slice(), at, word);
         self.lengths[index] = word.len() as u8;
         self.count = index + 1;
         self.used = at + word.len();
@@ -103,7 +103,7 @@ impl ReadableList for PlainList {
             return Err(ListFault::UnknownWord);
         }
         let word = self.word_at(number as usize - 1);
-        output::put(out, 0, word).ok_or(ListFault::OutputTooShort)
+        output::write_at(out, 0, word).ok_or(ListFault::OutputTooShort)
     }
 }
 

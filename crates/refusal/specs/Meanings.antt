@@ -19,8 +19,12 @@ pub record Printed : Type 0 where
   pub report : (r : Report) → reports.output r ≡ Some (report_text r)
   pub side : (s : Side) → sides.output s ≡ Some (side_text s)
 
+-- what a conversion by `From` gives is that function of it
+abbrev pub Gives : {A B : Type 0} → (A → B → Type 0) → (A → B) → Type 0
+Gives {A} {B} gives f = (a : A) (b : B) → gives a b ↔ (b ≡ f a)
+
 -- a fault becomes the refusal of no side
 pub record PassedUp : Type 0 where
-  pub spelling : (f : SpellFault) (r : Refusal) → from_spelling.from_gives f r ↔ (r ≡ spell_refusal f Neither)
-  pub list : (f : ListFault) (r : Refusal) → from_list.from_gives f r ↔ (r ≡ list_refusal f Neither)
-  pub table : (f : LinkFault) (r : Refusal) → from_table.from_gives f r ↔ (r ≡ link_refusal f)
+  pub spelling : Gives from_spelling.from_gives (λ (f : SpellFault). spell_refusal f Neither)
+  pub list : Gives from_list.from_gives (λ (f : ListFault). list_refusal f Neither)
+  pub table : Gives from_table.from_gives link_refusal

@@ -1,4 +1,5 @@
--- The number, the layer and the side of each refusal, and the refusal that a fault of spelling, of a list or of the link table leads to.
+-- The number, the layer and the side of each refusal, and the refusal that a fault of spelling, of a list or of the
+-- link table leads to.
 use Rattle.std.specs.Prelude.{ℕ, List, ◌++◌, codes, decimal}
 use Rattle.refusal.specs.declared.Layer.{Layer}
 use Rattle.refusal.specs.declared.Layer.TheVariants.{Call, List as WordList, Table}
@@ -67,4 +68,5 @@ side_text Second = codes "the second word"
 
 -- a report as it is printed: number, layer and side
 abbrev pub report_text : Report → List ℕ
-report_text r = decimal r.number ++ (codes " " ++ (decimal (layer_number r.layer) ++ (codes " " ++ decimal (side_number r.side))))
+report_text r = decimal r.number
+    ++ (codes " " ++ (decimal (layer_number r.layer) ++ (codes " " ++ decimal (side_number r.side))))

@@ -29,10 +29,14 @@ module _ {S L : Type 0} (K : Kit S L Tally) where
   -- what the share of (x, y, q) answers in a state s, of every history that led to it
   pub record ShareLaw (s : State L Tally) (x y : List S) (q : ℕ) (r : Result ℕ Refusal) : Type 0 where
     -- of a present triple it is the share of the count last written for it in T
-    pub shared : (h : History S Tally) → Reached K h s → (e : PresentTriple S Tally) → In (present K h) e → same_triple K x y q e ≡ true
+    pub shared : (h : History S Tally) → Reached K h s → (e : PresentTriple S Tally) → In (present K h) e
+        → same_triple K x y q e ≡ true
         → r ≡ Ok (share_of e.kept.count (total_after h x q))
     -- and T is at least 1, since the tally of every present triple is sound: the share of the total 0 never comes
-    pub positive : (h : History S Tally) → Reached K h s → (e : PresentTriple S Tally) → In (present K h) e → same_triple K x y q e ≡ true
+    pub positive : (h : History S Tally) → Reached K h s → (e : PresentTriple S Tally) → In (present K h) e
+        → same_triple K x y q e ≡ true
         → 1 ≤ total_after h x q
     -- it is refused by the first refusal that applies, judged by the roll and the present triples, and by no other
-    pub refused : (h : History S Tally) → Reached K h s → Unless (first (sought_refusals x y q (number_in K s.list x) (number_in K s.list y) (has_triple K (present K h) x y q))) r
+    pub refused : (h : History S Tally) → Reached K h s
+        → Unless (first (sought_refusals x y q (number_in K s.list x) (number_in K s.list y)
+        (has_triple K (present K h) x y q))) r

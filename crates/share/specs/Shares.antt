@@ -8,6 +8,8 @@ use Rattle.link_table.specs.declared.table.LinkTable.{LinkTable}
 use Rattle.link_table.specs.declared.triple.Triple.{Triple}
 use Rattle.listing.specs.declared.row.LinkRow.{LinkRow}
 use Rattle.history.specs.declared.replies.Link.{Link}
+use Rattle.history.specs.Kits.{Kit, State}
+use Rattle.store.specs.Links.{link_answer}
 use Rattle.share.specs.Rounding.{share_of}
 use Rattle.share.specs.Totals.{CountedTriple, total_of}
 
@@ -35,5 +37,10 @@ present_in t records = filter_map (λ u. counted_as (coded t u) (count_at record
 
 -- the share of the triple whose link was sought, or the refusal
 abbrev pub share_answer : LinkTable → List Tally → ℕ → Result Link Refusal → Result ℕ Refusal
-share_answer t records k (Ok link) = Ok (share_of (count_at records link.number) (total_of ◌==◌ (present_in t records) link.x k))
+share_answer t records k (Ok link) =
+    Ok (share_of (count_at records link.number) (total_of ◌==◌ (present_in t records) link.x k))
 share_answer t records k (Err e) = Err e
+
+-- the share of the words x and y with the relation q in a store
+abbrev pub share_in : {S L : Type 0} → Kit S L Tally → State L Tally → List S → List S → ℕ → Result ℕ Refusal
+share_in K s x y q = share_answer s.table s.records q (link_answer K s.list s.table x y q)

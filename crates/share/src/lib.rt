@@ -11,9 +11,8 @@ mod tests;
 
 ghost use Rattle.std.specs.Prelude.{◌≡◌, ◌≤◌, IfOk};
 ghost use Rattle.history.specs.Kits.{state_of};
-ghost use Rattle.store.specs.Links.{word_kit, link_answer};
 ghost use Rattle.share.specs.Rounding.{Nearest};
-ghost use Rattle.share.specs.Shares.{share_answer};
+ghost use Rattle.share.specs.Shares.{share_in};
 ghost use Rattle.share.specs.Laws.{tally_kit, ShareLaw};
 
 pub use counts::count_at;
@@ -35,9 +34,8 @@ pub fn share<S: Script, L: ReadableList>(
     records: &[Tally],
     words: WordTriple<'_, S>,
 ) -> Result<u32, Refusal>
-    ensures answer { result ≡ share_answer table.now records.now words.entry.relation
-        (link_answer (word_kit S.Script L.ReadableList) list.now table.now words.entry.x.now words.entry.y.now
-        words.entry.relation) }
+    ensures answer { result ≡ share_in (tally_kit S.Script L.ReadableList) (state_of list.now table.now records.now)
+        words.entry.x.now words.entry.y.now words.entry.relation }
     ensures most { IfOk result (λ n. n ≤ 1000000) }
     ensures nearest { Nearest }
     ensures law { ShareLaw (tally_kit S.Script L.ReadableList) (state_of list.now table.now records.now) words.entry.x.now

@@ -22,13 +22,17 @@ abbrev pub record_kit : {R : Type 0} → Records R → Kit (Unit {0}) (Unit {0})
 record_kit r = record { spelling = λ _. []; roll = λ _. []; good = r.sound }
 
 -- the triple was refused and nothing changed, or it has the new number u and the record stands there
-abbrev pub JoinsAt : {R : Type 0} → Option Refusal → LinkTable → List R → Triple → R → Result Link Refusal → LinkTable → List R → Type 0
+abbrev pub JoinsAt : {R : Type 0} → Option Refusal → LinkTable → List R → Triple → R → Result Link Refusal → LinkTable
+    → List R → Type 0
 JoinsAt (Some f) s rs triple r n t rs' = (n ≡ Err f) × (t ≡ s) × (rs' ≡ rs)
-JoinsAt None s rs triple r n t rs' = (u : ℕ) × (n ≡ Ok (record { x = triple.x; y = triple.y; number = u })) × Put s triple u t × (rs' ≡ slice_set rs (u - 1) r)
+JoinsAt None s rs triple r n t rs' = (u : ℕ) × (n ≡ Ok (record { x = triple.x; y = triple.y; number = u }))
+    × Put s triple u t × (rs' ≡ slice_set rs (u - 1) r)
 
 abbrev pub Joins : {R : Type 0} → LinkTable → List R → Triple → R → Result Link Refusal → LinkTable → List R → Type 0
-Joins s rs triple r n t rs' = JoinsAt (first (link_refusals (is_some (found s triple)) (all_held s) (has_place s triple))) s rs triple r n t rs'
+Joins s rs triple r n t rs' =
+    JoinsAt (first (link_refusals (is_some (found s triple)) (all_held s) (has_place s triple))) s rs triple r n t rs'
 
 -- the link of a triple that is sought, or why it is not found
 abbrev pub link_answer : {S L R : Type 0} → Kit S L R → L → LinkTable → List S → List S → ℕ → Result Link Refusal
-link_answer K l t x y q = answered (refusal_of_sought K l t x y q) (link_in K l x y (unwrap_or (found t (triple_in K l x y q)) 0))
+link_answer K l t x y q =
+    answered (refusal_of_sought K l t x y q) (link_in K l x y (unwrap_or (found t (triple_in K l x y q)) 0))

@@ -9,11 +9,11 @@ use Rattle.lexicon.specs.Answers.{EnterLeaves}
 use Rattle.link_table.specs.declared.triple.Triple.{Triple}
 use Rattle.history.specs.Kits.{Growth}
 use Rattle.history.specs.Refusals.{first, none, word_refusals, unknown_refusals, put_refusals}
-use Rattle.store.specs.declared.labels.Labels.{Labels}
+use Rattle.store.specs.declared.labels.SpelledWord.{SpelledWord}
 use Rattle.store.specs.declared.labels.WordPair.{WordPair}
 
 -- the labels that are held
-abbrev pub labels_in : Labels → List ℕ
+abbrev pub labels_in : SpelledWord → List ℕ
 labels_in w = w.labels.items
 
 -- a word on a side has the right length, or it is refused
@@ -22,7 +22,7 @@ SizeTested word side (Ok _) = word_sized word ≡ true
 SizeTested word side (Err e) = (word_sized word ≡ false) × (e ≡ WordLength side)
 
 -- a word on a side was spelled, or it has the wrong length
-abbrev pub Spelt : {S : Type 0} → (S → List ℕ) → List S → Side → Result Labels Refusal → Type 0
+abbrev pub Spelt : {S : Type 0} → (S → List ℕ) → List S → Side → Result SpelledWord Refusal → Type 0
 Spelt spelling word side (Ok w) = (word_sized word ≡ true) × (labels_in w ≡ spelled spelling word)
 Spelt spelling word side (Err e) = (word_sized word ≡ false) × (e ≡ WordLength side)
 
@@ -45,6 +45,10 @@ abbrev pub KnownTriple : Option ℕ → Option ℕ → ℕ → Result Triple Ref
 KnownTriple a b q (Ok t) = (a ≡ Some t.x) × (b ≡ Some t.y) × (t.relation ≡ q)
 KnownTriple a b q (Err e) = first (unknown_refusals a b) ≡ Some e
 
+-- the same of two spelled words, by a roll
+abbrev pub KnownPair : List (List ℕ) → WordPair → ℕ → Result Triple Refusal → Type 0
+KnownPair roll p q r = KnownTriple (number_of roll (labels_in p.x)) (number_of roll (labels_in p.y)) q r
+
 -- entering a word of the right length, whose number was a: it keeps its number, or becomes the last, or has no room
 abbrev pub entered_answer : Option ℕ → Bool → ℕ → Side → Result ℕ Refusal
 entered_answer (Some a) room count side = Ok a
@@ -52,7 +56,8 @@ entered_answer None true count side = Ok (count + 1)
 entered_answer None false count side = Err (NoRoom side)
 
 -- a word of the right length was entered into s, which left t
-abbrev pub EnteredWord : {L : Type 0} → (L → List (List ℕ)) → Growth L → L → List ℕ → Side → Result ℕ Refusal → L → Type 0
+abbrev pub EnteredWord : {L : Type 0} → (L → List (List ℕ)) → Growth L → L → List ℕ → Side → Result ℕ Refusal → L
+    → Type 0
 EnteredWord roll G s word side r t =
     (r ≡ entered_answer (number_of (roll s) word) (G.room s word) (length (roll s)) side)
     × EnterLeaves roll G.enters s word t (none (number_of (roll s) word) && G.room s word)

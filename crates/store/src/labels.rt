@@ -6,7 +6,7 @@ use arrayvec::ArrayVec;
 
 // A spelled word of 1 to 128 labels.
 #[derive(Drop)]
-pub struct Labels {
+pub struct SpelledWord {
     pub(super) labels: ArrayVec<u8, 128>,
     ghost sized: { label_sized labels.items ≡ true },
 }
@@ -14,6 +14,6 @@ pub struct Labels {
 // The spelled words of a relation.
 #[derive(Drop)]
 pub struct WordPair {
-    pub(super) x: Labels,
-    pub(super) y: Labels,
+    pub(super) x: SpelledWord,
+    pub(super) y: SpelledWord,
 }

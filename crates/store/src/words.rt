@@ -2,16 +2,16 @@
 ghost use Rattle.std.specs.Prelude.{◌≡◌};
 ghost use Rattle.lexicon.specs.Rolls.{number_of};
 ghost use Rattle.history.specs.Kits.{growth_of};
-ghost use Rattle.store.specs.Words.{labels_in, SizeTested, Spelt, PairSpelt, Admitted, KnownTriple, EnteredWord};
+ghost use Rattle.store.specs.Words.{labels_in, SizeTested, Spelt, PairSpelt, Admitted, KnownPair, EnteredWord};
 
-use super::labels::{Labels, WordPair};
+use super::labels::{SpelledWord, WordPair};
 use lexicon::{GrowingList, ReadableList};
 use link_table::Triple;
 use record::Record;
 use refusal::{Refusal, Side};
 use script::{Script, WordTriple, has_word_size, spell_word};
 
-impl Labels {
+impl SpelledWord {
     // The labels, in their order.
     pub(super) fn as_slice(&self) -> &[u8]
         ensures { result.now ≡ labels_in self.now }
@@ -21,11 +21,11 @@ impl Labels {
 }
 
 // The labels of the word on a side. A word of no symbol or of more than 32 is refused.
-pub(super) fn spell<S: Script>(word: &[S], side: Side) -> Result<Labels, Refusal>
+pub(super) fn spell<S: Script>(word: &[S], side: Side) -> Result<SpelledWord, Refusal>
     ensures { Spelt S.Script.spelling word.now side result }
 {
     let labels = spell_word(word).map_err(|fault| Refusal::of_spelling(fault, side))?;
-    Ok(Labels { labels })
+    Ok(SpelledWord { labels })
 }
 
 // The word on a side has 1 to 32 symbols, or is refused.
@@ -70,7 +70,7 @@ pub(super) fn admit<S: Script, R: Record>(
 }
 
 // The number of a spelled word, or none.
-pub(super) fn number_in<L: ReadableList>(list: &L, word: &Labels) -> Option<u16>
+pub(super) fn number_in<L: ReadableList>(list: &L, word: &SpelledWord) -> Option<u16>
     ensures { result ≡ number_of (L.ReadableList.roll list.now) (labels_in word.now) }
 {
     list.find(word.as_slice()).unwrap_or(None)
@@ -82,8 +82,7 @@ pub(super) fn known_triple<L: ReadableList>(
     pair: &WordPair,
     relation: u8,
 ) -> Result<Triple, Refusal>
-    ensures { KnownTriple (number_of (L.ReadableList.roll list.now) (labels_in pair.now.x))
-        (number_of (L.ReadableList.roll list.now) (labels_in pair.now.y)) relation result }
+    ensures { KnownPair (L.ReadableList.roll list.now) pair.now relation result }
 {
     let x = number_in(list, &pair.x).ok_or(Refusal::UnknownWord(Side::First))?;
     let y = number_in(list, &pair.y).ok_or(Refusal::UnknownWord(Side::Second))?;
@@ -91,7 +90,11 @@ pub(super) fn known_triple<L: ReadableList>(
 }
 
 // Enters the spelled word on a side and answers its number. A new word without room is refused.
-pub(super) fn enter<L: GrowingList>(list: &mut L, word: &Labels, side: Side) -> Result<u16, Refusal>
+pub(super) fn enter<L: GrowingList>(
+    list: &mut L,
+    word: &SpelledWord,
+    side: Side,
+) -> Result<u16, Refusal>
     ensures { EnteredWord L.ReadableList.roll (growth_of L.GrowingList) list.old (labels_in word.now) side result
         list.new }
 {

@@ -21,7 +21,8 @@ pub record NumbersBelow (cs : List Cell) (p ns : List ℕ) : Type 0 where
 -- the numbers that the index has stand in the order of their paths
 pub record Ordered (cs : List Cell) (is ns : List ℕ) : Type 0 where
   -- the path of an earlier one comes before the path of a later one
-  pub order : (i j : ℕ) (p q : List ℕ) → (i < j) × (j < length ns) → (slice_index ns i ≤ length is) × (slice_index ns j ≤ length is)
+  pub order : (i j : ℕ) (p q : List ℕ) → (i < j) × (j < length ns) → (slice_index ns i ≤ length is)
+      × (slice_index ns j ≤ length is)
       → (number_at cs p ≡ Some (slice_index ns i)) × (number_at cs q ≡ Some (slice_index ns j)) → Before p q
   -- so each is there once
   pub once : (i j : ℕ) → (i < j) × (j < length ns) → slice_index ns i ≤ length is → slice_index ns i ≢ slice_index ns j

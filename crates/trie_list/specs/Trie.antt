@@ -21,7 +21,8 @@ pub record Walked (s : TrieList) : Type 0 where
   -- the path of a word has the number that the roll gives the word, and none where the roll lacks it
   pub words : (word : List ℕ) → number_at (cells_of s.array) (path_of_word word) ≡ number_of (roll_of s) word
   -- a path that has a number is the path of that number's word
-  pub only : (p : List ℕ) (number : ℕ) → number_at (cells_of s.array) p ≡ Some number → (numbered (roll_of s) number ≡ true) × (p ≡ path_of_word (word_of (roll_of s) number))
+  pub only : (p : List ℕ) (number : ℕ) → number_at (cells_of s.array) p ≡ Some number
+      → (numbered (roll_of s) number ≡ true) × (p ≡ path_of_word (word_of (roll_of s) number))
 
 -- room for a word: there are fewer words than index places, and the placing rule finds every place of its path
 abbrev pub room_of : TrieList → List ℕ → Bool
@@ -37,8 +38,8 @@ pub record IsNewTrieList (n k : ℕ) (s : TrieList) : Type 0 where
   pub index_zero : (n : ℕ) → slice_index (index_of s.array) n ≡ 0
   pub no_words : roll_of s ≡ []
 
--- the cells and the index of the list t are what the placing rule leaves of those of s when the path of the word is entered
--- with the next number
+-- the cells and the index of the list t are what the placing rule leaves of those of s when the path of the word is
+-- entered with the next number
 pub record ArraysEntered (s : TrieList) (word : List ℕ) (t : TrieList) : Type 0 where
   pub arrays_after : enter (cells_of s.array) (index_of s.array) (path_of_word word) (length (roll_of s))
       ≡ Some (record { cells = cells_of t.array; index = index_of t.array })
@@ -46,5 +47,6 @@ pub record ArraysEntered (s : TrieList) (word : List ℕ) (t : TrieList) : Type 
 -- the roll of t ends with the new word if s had room for it, and else t is s and the fault is want of room
 abbrev pub Appends : TrieList → List ℕ → Result ℕ ListFault → TrieList → Type 0
 Appends s word (Ok number) t =
-    (room_of s word ≡ true) × (number ≡ length (roll_of s) + 1) × ArraysEntered s word t × (roll_of t ≡ roll_of s ++ word ∷ [])
+    (room_of s word ≡ true) × (number ≡ length (roll_of s) + 1) × ArraysEntered s word t
+    × (roll_of t ≡ roll_of s ++ word ∷ [])
 Appends s word (Err fault) t = (room_of s word ≡ false) × (fault ≡ NoRoom) × (t ≡ s)

@@ -129,7 +129,7 @@ impl ReadableList for TrieList {
             return Err(ListFault::UnknownWord);
         }
         let labels = self.word_of(number);
-        output::put(out, 0, labels.as_slice()).ok_or(ListFault::OutputTooShort)
+        output::write_at(out, 0, labels.as_slice()).ok_or(ListFault::OutputTooShort)
     }
 }
 

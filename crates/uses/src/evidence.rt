@@ -1,10 +1,8 @@
 // A caller that files evidence under a link number.
-ghost use Rattle.std.specs.Prelude.{◌≡◌, IfOk, length, vec_len};
-ghost use Rattle.link_table.specs.Tables.{IsNewTable};
-ghost use Rattle.link_table.specs.declared.table.LinkTable.{LinkTable};
+ghost use Rattle.std.specs.Prelude.{◌≡◌, IfOk, vec_len};
 ghost use Rattle.history.specs.Kits.{kit_of, growth_of, state_of};
 ghost use Rattle.history.specs.Calls.{read_of};
-ghost use Rattle.uses.specs.Evidence.{IsOwnReading, ReadsItsOwn, Runs};
+ghost use Rattle.uses.specs.Evidence.{IsOwnReading, ReadsItsOwn, RunsFrom};
 
 use cells::Cell;
 use history::Reading;
@@ -27,10 +25,8 @@ pub fn evidence_of<S: Script, L: GrowingList, R: Record>(
     evidence: R,
     other: WordTriple<'_, S>,
 ) -> Result<Reading<R>, Refusal>
-    ensures run { (table : LinkTable) × IsNewTable (vec_len cells) (vec_len index) (length records.old) table
-        × Runs (kit_of S.Script L.ReadableList R.Record) (growth_of L.GrowingList) pair.entry.x.now pair.entry.y.now
-        pair.entry.relation other.entry.x.now other.entry.y.now other.entry.relation evidence result list.new
-        records.new (state_of list.old table records.old) }
+    ensures run { RunsFrom (kit_of S.Script L.ReadableList R.Record) (growth_of L.GrowingList) pair.entry other.entry
+        evidence result list.new records.new (vec_len cells) (vec_len index) list.old records.old }
     ensures own { IfOk result
         (IsOwnReading (kit_of S.Script L.ReadableList R.Record) list.new pair.entry.x.now pair.entry.y.now
         pair.entry.relation evidence) }

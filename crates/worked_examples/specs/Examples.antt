@@ -66,22 +66,29 @@ no_room = record { number = 5; layer = WordList; side = Neither }
 
 -- what comes of them
 pub record Examples : Type 0 where
-  -- in a list of 104 cells a, b and ab get the numbers 1, 2 and 3; the leaf of a moves from 2 to 4, and its index entry follows
-  pub three_words : (run : ThreeWords 104) → (run.a_answer ≡ Ok 1) × (run.b_answer ≡ Ok 2) × (run.ab_answer ≡ Ok 3) × (held_by run.with_ab ≡ record {
-    cells = with_cells (replicate 104 free_cell) (
-        record { place = 1; base = pos 1; check = 1 } ∷ record { place = 2; base = negsuc 2; check = 103 } ∷ record { place = 3; base = negsuc 1; check = 101 }
-        ∷ record { place = 4; base = negsuc 0; check = 100 } ∷ record { place = 100; base = pos 3; check = 1 } ∷ record { place = 101; base = pos 2; check = 1 }
-        ∷ record { place = 103; base = pos 1; check = 100 } ∷ []);
-    index = 4 ∷ 3 ∷ 2 ∷ [];
-    count = 3;
-  })
-  -- in a list of 103 cells ab has no place and is refused: number 5, layer word list, side neither; the list is what a and b left
-  pub two_words : (run : ThreeWords 103) → (run.a_answer ≡ Ok 1) × (run.b_answer ≡ Ok 2) × (list_reported run.ab_answer ≡ Some no_room) × (run.with_ab ≡ run.with_b) × (held_by run.with_ab ≡ record {
-    cells = with_cells (replicate 103 free_cell) (
-        record { place = 1; base = pos 1; check = 1 } ∷ record { place = 2; base = negsuc 0; check = 100 } ∷ record { place = 3; base = negsuc 1; check = 101 }
-        ∷ record { place = 100; base = pos 1; check = 1 } ∷ record { place = 101; base = pos 2; check = 1 } ∷ []);
-    index = 2 ∷ 3 ∷ 0 ∷ [];
-    count = 2;
-  })
+  -- in a list of 104 cells a, b and ab get the numbers 1, 2 and 3; the leaf of a moves from 2 to 4, and its index entry
+  -- follows
+  pub three_words : (run : ThreeWords 104) → (run.a_answer ≡ Ok 1) × (run.b_answer ≡ Ok 2) × (run.ab_answer ≡ Ok 3)
+      × (held_by run.with_ab ≡ record {
+        cells = with_cells (replicate 104 free_cell) (
+            record { place = 1; base = pos 1; check = 1 } ∷ record { place = 2; base = negsuc 2; check = 103 }
+            ∷ record { place = 3; base = negsuc 1; check = 101 }
+            ∷ record { place = 4; base = negsuc 0; check = 100 } ∷ record { place = 100; base = pos 3; check = 1 }
+            ∷ record { place = 101; base = pos 2; check = 1 }
+            ∷ record { place = 103; base = pos 1; check = 100 } ∷ []);
+        index = 4 ∷ 3 ∷ 2 ∷ [];
+        count = 3;
+      })
+  -- in a list of 103 cells ab has no place and is refused: number 5, layer word list, side neither; the list is what a
+  -- and b left
+  pub two_words : (run : ThreeWords 103) → (run.a_answer ≡ Ok 1) × (run.b_answer ≡ Ok 2)
+      × (list_reported run.ab_answer ≡ Some no_room) × (run.with_ab ≡ run.with_b) × (held_by run.with_ab ≡ record {
+        cells = with_cells (replicate 103 free_cell) (
+            record { place = 1; base = pos 1; check = 1 } ∷ record { place = 2; base = negsuc 0; check = 100 }
+            ∷ record { place = 3; base = negsuc 1; check = 101 }
+            ∷ record { place = 100; base = pos 1; check = 1 } ∷ record { place = 101; base = pos 2; check = 1 } ∷ []);
+        index = 2 ∷ 3 ∷ 0 ∷ [];
+        count = 2;
+      })
   -- the noun with the form 258 is spelled 5, 1, 2
   pub noun : signs.spelling (record { class = Noun; form = 258 }) ≡ 5 ∷ 1 ∷ 2 ∷ []

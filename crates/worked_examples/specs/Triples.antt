@@ -31,7 +31,8 @@ module _ {S L R : Type 0} (K : Kit S L R) where
     pub sized : word_sized symbols ≡ true
     pub number : number_in K l symbols ≡ Some a
 
-  -- a store with a new table of n link cells and three index entries for three records; its list has three words or more
+  -- a store with a new table of n link cells and three index entries for three records; its list has three words or
+  -- more
   pub record NewStore (n : ℕ) : Type 0 where
     pub store : State L R
     pub one : Word store.list 1
@@ -81,16 +82,22 @@ module _ {S L R : Type 0} (K : Kit S L R) where
   -- what comes of them; the list stays as it was
   pub record TripleExamples : Type 0 where
     -- one triple takes 6 of 8 link cells
-    pub one_triple : (run : OneTie 8) → Links 1 2 run.answer × (figures_of run.after.table ≡ record { triples = 1; cells = 6 }) × (run.after.list ≡ run.fresh.store.list)
+    pub one_triple : (run : OneTie 8) → Links 1 2 run.answer
+        × (figures_of run.after.table ≡ record { triples = 1; cells = 6 }) × (run.after.list ≡ run.fresh.store.list)
     -- in 7 link cells it has no place; the store is the very same
-    pub no_triple : (run : OneTie 7) → (reported run.answer ≡ Some no_place) × (run.after ≡ run.fresh.store) × (figures_of run.after.table ≡ record { triples = 0; cells = 1 })
+    pub no_triple : (run : OneTie 7) → (reported run.answer ≡ Some no_place) × (run.after ≡ run.fresh.store)
+        × (figures_of run.after.table ≡ record { triples = 0; cells = 1 })
     -- three triples take 10 of 13 link cells
-    pub three_triples : (run : ThreeTies 13) → Links 1 2 run.one_answer × Links 1 2 run.two_answer × Links 1 3 run.three_answer
+    pub three_triples : (run : ThreeTies 13) → Links 1 2 run.one_answer × Links 1 2 run.two_answer
+        × Links 1 3 run.three_answer
         × (figures_of run.after.table ≡ record { triples = 3; cells = 10 }) × (run.after.list ≡ run.fresh.store.list)
     -- in 12 link cells the third has no place; the store is what two left, and that takes 9
-    pub two_triples : (run : ThreeTies 12) → Links 1 2 run.one_answer × Links 1 2 run.two_answer × (reported run.three_answer ≡ Some no_place) × (run.after ≡ run.with_two)
+    pub two_triples : (run : ThreeTies 12) → Links 1 2 run.one_answer × Links 1 2 run.two_answer
+        × (reported run.three_answer ≡ Some no_place) × (run.after ≡ run.with_two)
         × (figures_of run.after.table ≡ record { triples = 2; cells = 9 }) × (run.after.list ≡ run.fresh.store.list)
-    -- of the three in 13 link cells the second is deleted: the answer is the number that it was tied with, 7 cells are in use, and
-    -- list and records stay as they were
-    pub one_out : (run : OneOut 13) → (u : ℕ) × (run.ties.two_answer ≡ Ok (record { x = 1; y = 2; number = u })) × (run.answer ≡ Ok u)
-        × (figures_of run.after.table ≡ record { triples = 2; cells = 7 }) × (run.after.list ≡ run.ties.fresh.store.list) × (run.after.records ≡ run.ties.after.records)
+    -- of the three in 13 link cells the second is deleted: the answer is the number that it was tied with, 7 cells are
+    -- in use, and list and records stay as they were
+    pub one_out : (run : OneOut 13) → (u : ℕ) × (run.ties.two_answer ≡ Ok (record { x = 1; y = 2; number = u }))
+        × (run.answer ≡ Ok u)
+        × (figures_of run.after.table ≡ record { triples = 2; cells = 7 })
+        × (run.after.list ≡ run.ties.fresh.store.list) × (run.after.records ≡ run.ties.after.records)

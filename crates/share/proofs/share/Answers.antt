@@ -1,8 +1,9 @@
 use Rattle.std.proofs.Common.{◌≡◌, eqb, Ok, ap, ◌∙◌, rules}
 use Rattle.script.proofs.Apart.{words_apart}
 use Rattle.link_table.specs.declared.table.LinkTable.{LinkTable}
-use Rattle.store.specs.Links.{word_kit, link_answer}
-use Rattle.share.specs.Shares.{present_in, share_answer}
+use Rattle.history.specs.Kits.{state_of}
+use Rattle.store.specs.Links.{word_kit}
+use Rattle.share.specs.Shares.{present_in, share_in}
 use Rattle.share.specs.Totals.{total_of}
 use Rattle.share.specs.Laws.{tally_kit}
 use Rattle.share.proofs.Answers.{share_is}
@@ -31,7 +32,7 @@ returns g c =
     let K = word_kit g.S.Script g.L.ReadableList in
     let link = c.in_ok-link.link in
     let total = c.total-total.ensures.sum ∙ ap (λ (s : LinkTable). total_of eqb (present_in s rs) link.x q) c.links.ensures in
-    let answer : Ok c.millionths.result ≡ share_answer t rs q (link_answer K l t x y q) =
+    let answer : Ok c.millionths.result ≡ share_in (tally_kit g.S.Script g.L.ReadableList) (state_of l t rs) x y q =
     share_is K l t rs x y q link c.in_ok-link.ensures c.millionths.result c.count_at-count.result c.total-total.result c.count_at-count.ensures total c.millionths.ensures.share in
     record {
       answer = answer;

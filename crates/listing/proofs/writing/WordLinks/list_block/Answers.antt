@@ -24,7 +24,7 @@ loop-lower-preserved c =
     let l = c.loop-lower in
     let y = b + l.lower in
     let one = row (found t (record { x = x; relation = k; y = y })) k y in
-    let m = c.match-number_of in
+    let m = c.match-link_number in
     placed_more c.args.out.now c.args.at (rows_from t x k b l.lower) one _ l.next m.next l.out m.out (from_more t x k b l.lower) l.invariant
     (elim m.branch [
       | in-Some w ↦ placed_as l.out l.next _ one _ _ _ _ (sym (ap (λ o. row o k y) w.in-Some.ensures.number)) w.next-is w.out-is w.place_row-next.ensures

@@ -2,7 +2,7 @@ use Rattle.std.proofs.Common.{◌≡◌, true, false, sym, ◌∙◌}
 use Rattle.std.proofs.lemmas.Bool.{cond-false}
 use Rattle.lexicon.specs.Rolls.{numbered}
 use Rattle.lexicon.proofs.Numbers.{numbered_by}
-use Rattle.lexicon.proofs.Spells.{put_answer, put_output, put_within}
+use Rattle.lexicon.proofs.Spells.{write_at_answer, write_at_output, write_at_within}
 use Rattle.plain_list.specs.Plain.{roll_of}
 use Rattle.plain_list.proofs.Lists.{length_roll}
 use Rattle.plain_list.proofs.calls.PlainListReadableList.spell.Goals as goal
@@ -24,7 +24,7 @@ returns c =
     let some : numbered (roll_of s) c.args.number ≡ true = sym (numbered_by (roll_of s) c.args.number s.count (length_roll s)) ∙ sym c.if-not-is_numbered.ensures in
     let word = c.word_at-word.result.now in
     record {
-      answer = put_answer (roll_of s) c.args.number out word some c.word_at-word.ensures c.put.result c.ok_or.result c.put.ensures.end c.ok_or.ensures.value;
-      output = put_output (roll_of s) c.args.number out word some c.word_at-word.ensures c.put.new.out c.put.ensures.after;
-      within = put_within out word c.put.result c.ok_or.result c.put.ensures.end c.ok_or.ensures.value;
+      answer = write_at_answer (roll_of s) c.args.number out word some c.word_at-word.ensures c.write_at.result c.ok_or.result c.write_at.ensures.end c.ok_or.ensures.value;
+      output = write_at_output (roll_of s) c.args.number out word some c.word_at-word.ensures c.write_at.new.out c.write_at.ensures.after;
+      within = write_at_within out word c.write_at.result c.ok_or.result c.write_at.ensures.end c.ok_or.ensures.value;
     }

@@ -12,8 +12,8 @@ invariant_of-self c =
     let s = c.args.self.now in
     let w = c.args.word.now in
     let new : New s w = new_facts s w c.requires in
-    let long : length c.put.new.out ≡ s.bytes.len = omega (arith, c.put.auto.out, c.as_mut_slice.ensures.len) in
-    let bytes = more_bytes s w new c.put.new.out c.as_mut_slice.result.now long c.as_mut_slice.ensures.value c.put.ensures.after in
+    let long : length c.write_at.new.out ≡ s.bytes.len = omega (arith, c.write_at.auto.out, c.as_mut_slice.ensures.len) in
+    let bytes = more_bytes s w new c.write_at.new.out c.as_mut_slice.result.now long c.as_mut_slice.ensures.value c.write_at.ensures.after in
     let roll = ap (cut (take (s.count + 1) (set (vec_items s.lengths) s.count (length w)))) bytes ∙ more_roll s w new in
     let lawful = lawful_push (roll_of s) w (roll_lawful s) (omega (arith, new.few, length_roll s)) new.sized new.absent in
     record {
@@ -34,8 +34,8 @@ returns c =
     let s = c.args.self.now in
     let w = c.args.word.now in
     let new : New s w = new_facts s w c.requires in
-    let long : length c.put.new.out ≡ s.bytes.len = omega (arith, c.put.auto.out, c.as_mut_slice.ensures.len) in
-    let bytes = more_bytes s w new c.put.new.out c.as_mut_slice.result.now long c.as_mut_slice.ensures.value c.put.ensures.after in
+    let long : length c.write_at.new.out ≡ s.bytes.len = omega (arith, c.write_at.auto.out, c.as_mut_slice.ensures.len) in
+    let bytes = more_bytes s w new c.write_at.new.out c.as_mut_slice.result.now long c.as_mut_slice.ensures.value c.write_at.ensures.after in
     record {
       arrays = record {
         bytes_after = bytes ∙ ap (λ (u : ℕ). written (vec_items s.bytes) u w) (sym (bytes_roll s));

@@ -2,7 +2,7 @@ use Rattle.std.proofs.Common.{◌≡◌, true, false, sym, ◌∙◌}
 use Rattle.std.proofs.lemmas.Bool.{cond-false}
 use Rattle.lexicon.specs.Rolls.{numbered}
 use Rattle.lexicon.proofs.Numbers.{numbered_by}
-use Rattle.lexicon.proofs.Spells.{put_answer, put_output, put_within}
+use Rattle.lexicon.proofs.Spells.{write_at_answer, write_at_output, write_at_within}
 use Rattle.trie_list.specs.Trie.{roll_of}
 use Rattle.trie_list.proofs.Lists.{length_roll}
 use Rattle.trie_list.proofs.calls.TrieListReadableList.spell.Goals as goal
@@ -28,7 +28,7 @@ returns c =
     let word = c.as_slice.result.now in
     let same = c.as_slice.ensures.value ∙ c.word_of-labels.ensures in
     record {
-      answer = put_answer (roll_of s) c.args.number out word some same c.put.result c.ok_or.result c.put.ensures.end c.ok_or.ensures.value;
-      output = put_output (roll_of s) c.args.number out word some same c.put.new.out c.put.ensures.after;
-      within = put_within out word c.put.result c.ok_or.result c.put.ensures.end c.ok_or.ensures.value;
+      answer = write_at_answer (roll_of s) c.args.number out word some same c.write_at.result c.ok_or.result c.write_at.ensures.end c.ok_or.ensures.value;
+      output = write_at_output (roll_of s) c.args.number out word some same c.write_at.new.out c.write_at.ensures.after;
+      within = write_at_within out word c.write_at.result c.ok_or.result c.write_at.ensures.end c.ok_or.ensures.value;
     }

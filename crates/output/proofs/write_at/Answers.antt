@@ -2,7 +2,7 @@ use Rattle.std.proofs.Common.{◌≡◌, ◌+◌, ◌≤◌, true, length, sym, 
 use Rattle.std.proofs.lemmas.Bool.{le-leb, cond-true}
 use Rattle.output.specs.Written.{fits}
 use Rattle.output.proofs.Writes.{written_part}
-use Rattle.output.proofs.put.Goals as goal
+use Rattle.output.proofs.write_at.Goals as goal
 
 pub returns : goal.returns
 returns g c =

@@ -1,6 +1,6 @@
 use Rattle.std.proofs.Common.{ℕ, Some, sym, ap, ◌∙◌, arith}
 use Rattle.command.proofs.Readings.{none_over, some_number, reading_more, reading_ge, reading_all}
-use Rattle.command.proofs.number.Goals as goal
+use Rattle.command.proofs.number_read.Goals as goal
 
 pub returns-then-n-limit : goal.returns-then-n-limit
 returns-then-n-limit c =
