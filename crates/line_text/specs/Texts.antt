@@ -1,5 +1,5 @@
 -- The text of each answer; byte 9 is a tab and byte 10 a line feed.
-use Rattle.std.specs.Prelude.{ℕ, List, [], ◌∷◌, ◌++◌, length, take, Ok, Err, codes, decimal, Result}
+use Rattle.std.specs.Prelude.{ℕ, List, [], ◌∷◌, ◌++◌, length, take, Ok, Err, codes, decimal, if◌then◌else◌, Result, nat_lt}
 use Rattle.std.specs.List.{flat_map}
 use Rattle.refusal.specs.declared.Refusal.{Refusal}
 use Rattle.refusal.specs.declared.Report.{Report}
@@ -12,6 +12,10 @@ use Rattle.line_text.specs.declared.LineAnswer.TheVariants.{Done, Found, Absent,
 -- the rows of a listing, in their order
 abbrev pub printed_rows : LineRows → List LineRow
 printed_rows rows = take rows.count rows.rows
+
+-- rows with one more, of which 100 have a place
+abbrev pub rows_with : List LineRow → LineRow → List LineRow
+rows_with rows row = if nat_lt (length rows) 100 then rows ++ row ∷ [] else rows
 
 -- a number, and the byte that ends it
 abbrev pub number_text : ℕ → ℕ → List ℕ

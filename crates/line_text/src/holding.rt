@@ -1,6 +1,6 @@
 // Rows as they are taken and held.
-ghost use Rattle.std.specs.Prelude.{◌≡◌, ◌≤◌, [], ◌∷◌, ◌++◌, length, if◌then◌else◌, Ok, Err, nat_lt};
-ghost use Rattle.line_text.specs.Texts.{printed_rows};
+ghost use Rattle.std.specs.Prelude.{◌≡◌, ◌≤◌, [], length, if◌then◌else◌, Ok, Err, nat_lt};
+ghost use Rattle.line_text.specs.Texts.{printed_rows, rows_with};
 
 use super::rows::{LineRow, LineRows, ROW_PLACES};
 
@@ -19,8 +19,7 @@ impl LineRows {
     // rows then stay.
     pub fn push(&mut self, row: LineRow) -> Result<(), LineRow>
         ensures room { result ≡ (if nat_lt (length (printed_rows self.old)) 100 then Ok tt else Err row) }
-        ensures after { printed_rows self.new ≡
-            (if nat_lt (length (printed_rows self.old)) 100 then printed_rows self.old ++ row ∷ [] else printed_rows self.old) }
+        ensures after { printed_rows self.new ≡ rows_with (printed_rows self.old) row }
     {
         if self.count >= ROW_PLACES {
             return Err(row);
