@@ -7,7 +7,7 @@ use Rattle.cells.specs.declared.Cell.{Cell}
 use Rattle.cells.specs.Walking.{number_at, turned}
 use Rattle.members.specs.Lists.{In, Apart}
 use Rattle.cells.specs.Trees.{Held}
-use Rattle.cells.specs.Counting.{in_use, has, add, add_beginnings, beginnings}
+use Rattle.cells.specs.Counting.{in_use, has, with_beginning, add_beginnings, beginnings}
 use Rattle.cells.specs.Invariant.{Sound}
 use Rattle.cells.specs.Laws.{Holds, BeginningsOf}
 use Rattle.cells.proofs.Basics.{some_is}
@@ -23,16 +23,16 @@ decides_has [] p = (λ e. absurd (false≢true e), λ i. absurd i)
 decides_has (q ∷ qs) p = Decides-or _ _ (decides_same p q) (decides_has qs p)
 
 -- one more
-in_add : (p : List ℕ) (bs : List (List ℕ)) (x : List ℕ) → In (add p bs) x → (x ≡ p) ⊎ In bs x
+in_add : (p : List ℕ) (bs : List (List ℕ)) (x : List ℕ) → In (with_beginning p bs) x → (x ≡ p) ⊎ In bs x
 in_add p bs x = cond_both (has bs p) bs (p ∷ bs) (λ l. In l x → (x ≡ p) ⊎ In bs x) (λ e i. inr i) (λ e i. i)
 
-add_old : (p : List ℕ) (bs : List (List ℕ)) (x : List ℕ) → In bs x → In (add p bs) x
+add_old : (p : List ℕ) (bs : List (List ℕ)) (x : List ℕ) → In bs x → In (with_beginning p bs) x
 add_old p bs x i = cond_both (has bs p) bs (p ∷ bs) (λ l. In l x) (λ e. i) (λ e. inr i)
 
-add_new : (p : List ℕ) (bs : List (List ℕ)) → In (add p bs) p
+add_new : (p : List ℕ) (bs : List (List ℕ)) → In (with_beginning p bs) p
 add_new p bs = cond_both (has bs p) bs (p ∷ bs) (λ l. In l p) (λ e. (decides_has bs p).0 e) (λ e. inl refl)
 
-apart_add : (p : List ℕ) (bs : List (List ℕ)) → Apart bs → Apart (add p bs)
+apart_add : (p : List ℕ) (bs : List (List ℕ)) → Apart bs → Apart (with_beginning p bs)
 apart_add p bs a = cond_both (has bs p) bs (p ∷ bs) Apart (λ e. a) (λ e. (not_from_Decides (has bs p) (decides_has bs p) e, a))
 
 -- the beginnings of one path more

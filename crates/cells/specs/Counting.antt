@@ -30,13 +30,13 @@ has [] p = false
 has (q ∷ qs) p = same_path p q || has qs p
 
 -- the paths with p, once
-abbrev pub add : List ℕ → List (List ℕ) → List (List ℕ)
-add p bs = cond (has bs p) bs (p ∷ bs)
+abbrev pub with_beginning : List ℕ → List (List ℕ) → List (List ℕ)
+with_beginning p bs = cond (has bs p) bs (p ∷ bs)
 
 -- bs with q and each longer beginning of the path q ++ p
 abbrev pub add_beginnings : List ℕ → List ℕ → List (List ℕ) → List (List ℕ)
 add_beginnings q [] bs = bs
-add_beginnings q (a ∷ p) bs = add (q ++ a ∷ []) (add_beginnings (q ++ a ∷ []) p bs)
+add_beginnings q (a ∷ p) bs = with_beginning (q ++ a ∷ []) (add_beginnings (q ++ a ∷ []) p bs)
 
 -- the different beginnings of the paths, but for the empty one
 abbrev pub beginnings : List (List ℕ) → List (List ℕ)

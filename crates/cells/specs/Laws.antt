@@ -177,6 +177,6 @@ abbrev pub Using : Type 0
 Using = (cs : List Cell) (is : List ℕ) → Sound cs is → Uses cs
 
 -- fewer than two cells hold no path and have no place for any, and none of them is counted as in use
-abbrev pub Short : Type 0
-Short = (cs : List Cell) (is p : List ℕ) (n : ℕ) → length cs < 2 → (number_at cs p ≡ None) × (enter cs is p n ≡ None)
+abbrev pub ShortArrays : Type 0
+ShortArrays = (cs : List Cell) (is p : List ℕ) (n : ℕ) → length cs < 2 → (number_at cs p ≡ None) × (enter cs is p n ≡ None)
     × (in_use cs ≡ 0)

@@ -6,7 +6,7 @@
 #![tactic(auto)]
 
 ghost use Rattle.cells.specs.Laws.{Starting, Unused, Walking, Climbing, Indexing};
-ghost use Rattle.cells.specs.Laws.{Holding, Counting, Beginning, Using, Short};
+ghost use Rattle.cells.specs.Laws.{Holding, Counting, Beginning, Using, ShortArrays};
 ghost use Rattle.cells.specs.Laws.{Searching, Relocating, Entering, Moving, Undoing, TakingBack, Taking};
 ghost use Rattle.cells.specs.Examples.{Examples};
 
@@ -40,7 +40,7 @@ pub fn reading_laws()
     ensures counting { Counting }
     ensures beginning { Beginning }
     ensures using { Using }
-    ensures short { Short }
+    ensures short { ShortArrays }
 {}
 
 // What a change does: the search finds the lowest base; when a family moves, nothing held changes;

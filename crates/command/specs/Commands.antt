@@ -1,7 +1,9 @@
 -- What a line asks for.
-use Rattle.std.specs.Prelude.{ℕ, cond, ◌&&◌, List, [], length, drop, None, codes, Option, ◌==◌, nat_le, slice_index, slice_index_or}
+use Rattle.std.specs.Prelude.{◌≡◌, ℕ, cond, ◌&&◌, List, [], length, drop, Some, None, codes, Option, Result, MatchResult, ◌==◌, nat_le, slice_index, slice_index_or}
 use Prim.Native.String.{String}
 use Rattle.std.specs.Option.{option_map, option_zip}
+use Rattle.refusal.specs.declared.Refusal.{Refusal}
+use Rattle.refusal.specs.declared.Refusal.TheVariants.{MalformedLine}
 use Rattle.command.specs.declared.Command.{Command}
 use Rattle.command.specs.declared.Command.TheVariants.{Add, Tie, Delete, Find, Share, List as ListOf}
 use Rattle.command.specs.Fields.{fields}
@@ -72,3 +74,8 @@ letter_asks l fs =
 abbrev pub asked_by : List ℕ → Option Asked
 asked_by line = cond (nat_le (length line) 127 && slice_index line 1 == 9)
     (letter_asks (slice_index line 0) (fields (drop 2 line))) None
+
+-- a line was read as the command that it is, or it is none and malformed
+abbrev pub IsParsed : List ℕ → Result Command Refusal → Type 0
+IsParsed line r =
+    MatchResult r (λ c. asked_by line ≡ Some (seen c)) (λ e. (e ≡ MalformedLine) × (asked_by line ≡ None))

@@ -5,12 +5,11 @@
 // The rules stand in docs/LINES.md.
 #![tactic(auto)]
 
-ghost use Rattle.std.specs.Prelude.{◌≡◌, ℕ, ◌^◌, ◌<◌, ◌≤◌, ◌≢◌, [], ◌∷◌, length, IfSome, Some, None, MatchOption, MatchResult, position};
+ghost use Rattle.std.specs.Prelude.{◌≡◌, ℕ, ◌^◌, ◌<◌, ◌≤◌, ◌≢◌, [], ◌∷◌, length, IfSome, MatchOption, position};
 ghost use Rattle.std.specs.Option.{option_map};
-ghost use Rattle.refusal.specs.declared.Refusal.TheVariants.{MalformedLine};
 ghost use Rattle.command.specs.Fields.{is_tab, fields};
 ghost use Rattle.command.specs.Numbers.{number_read, ReadsBack};
-ghost use Rattle.command.specs.Commands.{seen, word_fields, pair_fields, count_fields, letter_asks, asked_by};
+ghost use Rattle.command.specs.Commands.{seen, word_fields, pair_fields, count_fields, letter_asks, IsParsed};
 ghost use Rattle.command.specs.Lines.{OneToOne};
 
 use refusal::Refusal;
@@ -91,8 +90,8 @@ fn three(text: &[u8]) -> Option<(&[u8], &[u8], &[u8])>
 // The fields where there are just four. One function of as many fields as its type says would hand out
 // an array of slices, of which a contract names each by its place, and be no plainer.
 fn four(text: &[u8]) -> Option<(&[u8], &[u8], &[u8], &[u8])>
-    ensures { MatchOption result (length (fields text.now) ≢ 4)
-        (λ p. fields text.now ≡ p.0.now ∷ p.1.now ∷ p.2.now ∷ p.3.now ∷ []) }
+    ensures { let all = fields text.now in
+        MatchOption result (length all ≢ 4) (λ p. all ≡ p.0.now ∷ p.1.now ∷ p.2.now ∷ p.3.now ∷ []) }
 {
     let (first, rest) = cut_field(text)?;
     let (second, third, fourth) = three(rest)?;
@@ -185,8 +184,7 @@ fn letter_asks(letter: char, rest: &[u8]) -> Option<Command<'_>>
 // number just where they are its decimal text.
 #[tactic(auto, using(crate::proofs::Belong::one_to_one, crate::proofs::Lines::line_long, crate::proofs::Lines::line_asks))]
 pub fn parse(line: &[u8]) -> Result<Command<'_>, Refusal>
-    ensures command { MatchResult result (λ c. asked_by line.now ≡ Some (seen c))
-        (λ e. (e ≡ MalformedLine) × (asked_by line.now ≡ None)) }
+    ensures command { IsParsed line.now result }
     ensures lines { OneToOne }
     ensures numbers { (limit : ℕ) → limit < 2 ^ 64 → ReadsBack limit }
 {

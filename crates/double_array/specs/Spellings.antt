@@ -1,14 +1,22 @@
 -- The path of a number, read upward from its leaf.
-use Rattle.std.specs.Prelude.{◌≡◌, ℕ, ◌-◌, ◌<◌, ◌≤◌, Bool, true, cond, ◌&&◌, List, ◌++◌, length, drop, Some, None, Ok, Err, Option, Result, nat_lt, slice_index}
+use Rattle.std.specs.Prelude.{◌≡◌, ℕ, ◌-◌, ◌<◌, ◌≤◌, Bool, true, cond, ◌&&◌, List, ◌++◌, length, drop, Some, None, Ok, Err, if◌then◌else◌, Option, Result, nat_lt, slice_index}
 use Rattle.cells.specs.declared.Cell.{Cell}
 use Rattle.cells.specs.Cells.{parent}
-use Rattle.cells.specs.Walking.{number_at, path_to}
+use Rattle.cells.specs.Walking.{cell_at, number_at, path_to}
 use Rattle.double_array.specs.declared.faults.NumberFault.{NumberFault}
 use Rattle.double_array.specs.declared.faults.NumberFault.TheVariants.{Unknown, Short}
 
 -- whether the number u has a leaf in the index
 abbrev pub is_known : List ℕ → ℕ → Bool
 is_known is u = nat_lt 0 u && nat_lt 0 (slice_index is (u - 1))
+
+-- the leaf of the number u, by the index
+abbrev pub leaf_in : List ℕ → ℕ → Option ℕ
+leaf_in is u = if is_known is u then Some (slice_index is (u - 1)) else None
+
+-- the cell that the path p leads to from the root, which an array of fewer than two cells has not
+abbrev pub cell_from_root : List Cell → List ℕ → Option ℕ
+cell_from_root cs p = if nat_lt 1 (length cs) then cell_at cs p else None
 
 -- the path to the leaf of the number u
 abbrev pub path_of : List Cell → List ℕ → ℕ → List ℕ

@@ -1,12 +1,12 @@
 // What is done with a double array.
-ghost use Rattle.std.specs.Prelude.{◌≡◌, ℕ, ◌<◌, min, List, length, IfNone, IfSome, if◌then◌else◌, None, nat_lt, vec_len, OnErr, OnOk, slice_index};
+ghost use Rattle.std.specs.Prelude.{◌≡◌, ℕ, ◌<◌, min, List, length, IfNone, IfSome, None, vec_len, OnErr, OnOk, slice_index};
 ghost use Rattle.cells.specs.Cells.{at, child as child_of};
-ghost use Rattle.cells.specs.Walking.{cell_at, number_at};
+ghost use Rattle.cells.specs.Walking.{number_at};
 ghost use Rattle.cells.specs.Counting.{in_use};
 ghost use Rattle.cells.specs.Laws.{cleared, Walks};
 ghost use Rattle.double_array.specs.Outcomes.{SameSizes, Taken, Removed, CountsBeginnings};
 ghost use Rattle.double_array.specs.Entries.{EntersPath, Added};
-ghost use Rattle.double_array.specs.Spellings.{Written, Named};
+ghost use Rattle.double_array.specs.Spellings.{cell_from_root, Written, Named};
 ghost use Rattle.double_array.specs.Views.{cells_of, index_of};
 
 use super::array::DoubleArray;
@@ -89,8 +89,7 @@ impl DoubleArray {
 
     // The cell that the path leads to from the root: none in an array of fewer than two cells, which has no root.
     pub fn cell_at(&self, path: &[u16]) -> Option<usize>
-        ensures cell { result ≡
-            (if nat_lt 1 (length (cells_of self.now)) then cell_at (cells_of self.now) path.now else None) }
+        ensures cell { result ≡ cell_from_root (cells_of self.now) path.now }
         ensures within { IfSome result (λ t. t < length (cells_of self.now)) }
     {
         self.nodes.cell_at(path)

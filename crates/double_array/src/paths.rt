@@ -1,10 +1,10 @@
 // Reading: the number at the end of a path, the path that leads to a cell, and how many cells are in use.
-ghost use Rattle.std.specs.Prelude.{◌≡◌, ◌-◌, ◌<◌, length, IfSome, if◌then◌else◌, Some, None, nat_lt, slice_index};
+ghost use Rattle.std.specs.Prelude.{◌≡◌, ◌-◌, ◌<◌, length, IfSome};
 ghost use Rattle.cells.specs.Cells.{parent, number, is_code, all_codes, label_code, label_of};
-ghost use Rattle.cells.specs.Walking.{cell_at, number_at, path_to};
+ghost use Rattle.cells.specs.Walking.{number_at, path_to};
 ghost use Rattle.cells.specs.Counting.{in_use};
 ghost use Rattle.double_array.specs.Outcomes.{Upward};
-ghost use Rattle.double_array.specs.Spellings.{is_known, Pointed, Written};
+ghost use Rattle.double_array.specs.Spellings.{leaf_in, cell_from_root, Pointed, Written};
 
 use super::faults::NumberFault;
 use super::nodes::Nodes;
@@ -47,8 +47,7 @@ pub fn label_of(code: u16) -> Option<u8>
 impl Nodes {
     // The cell that the path leads to from the root: none where there is no root.
     pub(super) fn cell_at(&self, path: &[u16]) -> Option<usize>
-        ensures cell { result ≡
-            (if nat_lt 1 (length self.now.cells.items) then cell_at self.now.cells.items path.now else None) }
+        ensures cell { result ≡ cell_from_root self.now.cells.items path.now }
         ensures within { IfSome result (λ t. t < length self.now.cells.items) }
     {
         if self.cells.len() > 1 && all_codes(path) {
@@ -101,8 +100,7 @@ impl Nodes {
 
     // The leaf of the number, by the index.
     pub(super) fn leaf_of(&self, number: u32) -> Option<usize>
-        ensures { result ≡
-            (if is_known self.now.index.items number then Some (slice_index self.now.index.items (number - 1)) else None) }
+        ensures { result ≡ leaf_in self.now.index.items number }
     {
         let entry = number.checked_sub(1)?;
         let t = *self.index.get(entry as usize)?;

@@ -8,6 +8,7 @@ use Rattle.refusal.specs.declared.Report.{Report}
 use Rattle.refusal.specs.Reports.{report_of, report_text}
 use Rattle.script.specs.Words.{word_sized, spelled}
 use Rattle.lexicon.specs.Answers.{is_new, EnterLeaves}
+use Rattle.lexicon.specs.Growths.{Growth}
 use Rattle.lexicon.specs.Rolls.{number_of, word_of, numbered}
 use Rattle.entry.specs.declared.WordEntry.{WordEntry}
 use Rattle.entry.specs.declared.WordEntry.TheVariants.{New, Known}
@@ -30,16 +31,15 @@ abbrev pub is_new_word : {S : Type 0} → (S → List ℕ) → List (List ℕ) �
 is_new_word spelling roll room word = word_sized word && is_new roll room (spelled spelling word)
 
 -- entering a word into a list, by its roll and its room
-abbrev pub entry_in : {S L : Type 0} → (S → List ℕ) → (L → List (List ℕ)) → (L → List ℕ → Bool) → L → List S
+abbrev pub entry_in : {S L : Type 0} → (S → List ℕ) → (L → List (List ℕ)) → Growth L → L → List S
     → Result WordEntry Refusal
-entry_in spelling roll room list word = entry_answer spelling (roll list) (room list (spelled spelling word)) word
+entry_in spelling roll G list word = entry_answer spelling (roll list) (G.room list (spelled spelling word)) word
 
 -- what entering a word leaves of the list s: the list t, which has the word as its last if it was new, and else is s
-abbrev pub EntryLeaves : {S L : Type 0} → (S → List ℕ) → (L → List (List ℕ)) → (L → List ℕ → Bool)
-    → (L → List ℕ → L → Type 0) → L → List S → L → Type 0
-EntryLeaves spelling roll room enters s word t =
-    EnterLeaves roll enters s (spelled spelling word) t
-    (is_new_word spelling (roll s) (room s (spelled spelling word)) word)
+abbrev pub EntryLeaves : {S L : Type 0} → (S → List ℕ) → (L → List (List ℕ)) → Growth L → L → List S → L → Type 0
+EntryLeaves spelling roll G s word t =
+    EnterLeaves roll G.enters s (spelled spelling word) t
+    (is_new_word spelling (roll s) (G.room s (spelled spelling word)) word)
 
 -- the number in an entry
 abbrev pub number_entered : WordEntry → ℕ

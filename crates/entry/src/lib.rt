@@ -6,6 +6,7 @@
 
 ghost use Rattle.std.specs.Prelude.{◌≡◌, ◌≤◌, Some};
 ghost use Rattle.std.specs.Option.{option_map};
+ghost use Rattle.lexicon.specs.Growths.{growth_of};
 ghost use Rattle.lexicon.specs.Rolls.{Lawful};
 ghost use Rattle.entry.specs.Entries.{entry_in, EntryLeaves, KeepsNumbers, labels_at, label_total, text_read, asked_of, reply_of, reply_text};
 
@@ -28,9 +29,8 @@ pub enum WordEntry {
 // refused, then a new word for which the list has no room; the list is then as it was.
 // Whatever comes, no word that the list had gets another number.
 pub fn enter_word<S: Script, L: GrowingList>(list: &mut L, word: &[S]) -> Result<WordEntry, Refusal>
-    ensures answer { result ≡ entry_in S.Script.spelling L.ReadableList.roll L.GrowingList.room list.old word.now }
-    ensures after { EntryLeaves S.Script.spelling L.ReadableList.roll L.GrowingList.room L.GrowingList.enters list.old
-        word.now list.new }
+    ensures answer { result ≡ entry_in S.Script.spelling L.ReadableList.roll (growth_of L.GrowingList) list.old word.now }
+    ensures after { EntryLeaves S.Script.spelling L.ReadableList.roll (growth_of L.GrowingList) list.old word.now list.new }
     ensures numbers { KeepsNumbers S.Script.spelling (L.ReadableList.roll list.old) word.now (L.ReadableList.roll list.new)
         result }
 {

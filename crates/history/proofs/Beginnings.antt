@@ -3,7 +3,7 @@ use Rattle.std.proofs.Common.{◌≡◌, ℕ, ◌+◌, Bool, true, false, cond, 
 use Rattle.std.proofs.lemmas.List.{length-map}
 use Rattle.std.proofs.lemmas.Bool.{eqb-true, eq-eqb}
 use Rattle.cells.specs.Cells.{path_of_labels}
-use Rattle.cells.specs.Counting.{same_path, has, add, add_beginnings, beginnings}
+use Rattle.cells.specs.Counting.{same_path, has, with_beginning, add_beginnings, beginnings}
 use Rattle.history.proofs.Options.{same_test}
 
 -- codes are the same if labels are
@@ -25,7 +25,7 @@ has_paths [] p = refl
 has_paths (b ∷ bs) p = ap (λ (x : Bool). x || has (map path_of_labels bs) (path_of_labels p)) (same_paths p b) ∙ ap (λ (x : Bool). same_path p b || x) (has_paths bs p)
 
 -- a code more, a path more
-add_paths : (p : List ℕ) (bs : List (List ℕ)) → add (path_of_labels p) (map path_of_labels bs) ≡ map path_of_labels (add p bs)
+add_paths : (p : List ℕ) (bs : List (List ℕ)) → with_beginning (path_of_labels p) (map path_of_labels bs) ≡ map path_of_labels (with_beginning p bs)
 add_paths p bs = ap (λ (x : Bool). cond x (map path_of_labels bs) (path_of_labels p ∷ map path_of_labels bs)) (has_paths bs p) ∙ both (has bs p)
   where
     -- it is new in both or in neither
@@ -42,8 +42,8 @@ push_label (b ∷ q) a = ap (λ (l : List ℕ). (b + 2) ∷ l) (push_label q a)
 add_all : (q p : List ℕ) (bs : List (List ℕ)) → add_beginnings (path_of_labels q) (path_of_labels p) (map path_of_labels bs) ≡ map path_of_labels (add_beginnings q p bs)
 add_all q [] bs = refl
 add_all q (a ∷ p) bs =
-    ap (λ (l : List ℕ). add l (add_beginnings l (path_of_labels p) (map path_of_labels bs))) (push_label q a)
-    ∙ ap (add (path_of_labels (q ++ a ∷ []))) (add_all (q ++ a ∷ []) p bs)
+    ap (λ (l : List ℕ). with_beginning l (add_beginnings l (path_of_labels p) (map path_of_labels bs))) (push_label q a)
+    ∙ ap (with_beginning (path_of_labels (q ++ a ∷ []))) (add_all (q ++ a ∷ []) p bs)
     ∙ add_paths (q ++ a ∷ []) (add_beginnings (q ++ a ∷ []) p bs)
 
 -- the beginnings of the paths are those of the codes, as paths

@@ -17,7 +17,7 @@ use Rattle.listing.proofs.Orders.{rising}
 use Rattle.history.specs.Kits.{Kit, state_of, labels_of, number_in}
 use Rattle.history.specs.Refusals.{word_refusals}
 use Rattle.history.specs.Runs.{PresentTriple, same_word}
-use Rattle.history.specs.Laws.{asks, listed_triples, Listing}
+use Rattle.history.specs.Laws.{asks, listed_triples, ListsTriples}
 use Rattle.members.proofs.Filters.{apart_from}
 use Rattle.history.proofs.Options.{none_applies}
 use Rattle.history.proofs.Standing.{link_at, Fits, triple_known, same_words, same_link}
@@ -103,5 +103,5 @@ module _ {S L R : Type 0} (K : Kit S L R) {es : List (PresentTriple S R)} {us : 
   as_many_rows = sym (ones rows) ∙ same_sums (λ _. 1) (λ _. 1) (λ r e i z. refl) ∙ ones (listed_triples K es x q)
 
   -- so listing the word gives its present triples
-  pub listing_of : Listing K (state_of l t rs) es x q
+  pub listing_of : ListsTriples K (state_of l t rs) es x q
   listing_of = record { rows = from_row; triples = to_row; as_many = as_many_rows }

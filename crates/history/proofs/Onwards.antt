@@ -5,7 +5,8 @@ use Rattle.lexicon.specs.Answers.{EnterLeaves}
 use Rattle.listing.specs.declared.row.LinkRow.{LinkRow}
 use Rattle.history.specs.declared.replies.Reply.{Reply}
 use Rattle.history.specs.declared.replies.Link.{Link}
-use Rattle.history.specs.Kits.{Kit, State, Growth, any_growth}
+use Rattle.lexicon.specs.Growths.{Growth, any_growth}
+use Rattle.history.specs.Kits.{Kit, State}
 use Rattle.history.specs.Calls.{Call, add, tie, delete, find, read, change, list, figures, Adds, Steps}
 use Rattle.history.specs.Runs.{after}
 use Rattle.history.specs.Laws.{Onward}

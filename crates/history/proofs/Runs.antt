@@ -18,7 +18,8 @@ use Rattle.link_table.specs.Tables.{found, coded, limit, all_held}
 use Rattle.link_table.specs.declared.table.LinkTable.{LinkTable}
 use Rattle.link_table.specs.declared.triple.Triple.{Triple}
 use Rattle.link_table.proofs.Tables.{lawful}
-use Rattle.history.specs.Kits.{Kit, State, state_of, any_growth, number_in, triple_in}
+use Rattle.lexicon.specs.Growths.{any_growth}
+use Rattle.history.specs.Kits.{Kit, State, state_of, number_in, triple_in}
 use Rattle.history.specs.Refusals.{first, word_refusals, sought_refusals, link_refusals, add_refusals, tie_refusals, read_refusals, change_refusals, list_refusals}
 use Rattle.history.specs.Calls.{LinkMade, held_in, place_in, lacks, refusal_of_tie, refusal_of_add, refusal_of_sought, refusal_of_change, refusal_of_list, answered, link_by, read_by, read_of, rows_in}
 use Rattle.history.specs.Runs.{History, PresentTriple, same_triple, Reached}

@@ -13,7 +13,8 @@ use Rattle.listing.specs.declared.row.LinkRow.{LinkRow}
 use Rattle.history.specs.declared.replies.Link.{Link}
 use Rattle.history.specs.declared.replies.Reply.{Reply}
 use Rattle.history.specs.declared.replies.Reply.TheVariants.{Linked, Deleted, Changed}
-use Rattle.history.specs.Kits.{Kit, State, Growth, state_of, any_growth, labels_of, number_in, triple_in}
+use Rattle.lexicon.specs.Growths.{Growth, any_growth}
+use Rattle.history.specs.Kits.{Kit, State, state_of, labels_of, number_in, triple_in}
 use Rattle.history.specs.Refusals.{none, word_refusals, put_refusals, add_refusals, tie_refusals, change_refusals}
 use Rattle.history.specs.Calls.{Call, add, tie, delete, find, read, change, list, figures, Decided, LinkMade, Adds, Ties, Deletes, Changes, Steps, links_in, lacks, grows, fine, refusal_of_tie, refusal_of_add, refusal_of_sought, refusal_of_change, replied}
 use Rattle.history.specs.Runs.{History, PresentTriple, present_triple, rewritten, put_in, triples_without, given, present, present_after, hand_out, take_back, handed, handed_after, handed_by, taken_by, one_if, put_after, puts, delete_after, deletes, Reached, new, after}

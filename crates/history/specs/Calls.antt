@@ -18,7 +18,8 @@ use Rattle.history.specs.declared.replies.Reading.{Reading}
 use Rattle.history.specs.declared.replies.Figures.{Figures as FigurePair}
 use Rattle.history.specs.declared.replies.Reply.{Reply}
 use Rattle.history.specs.declared.replies.Reply.TheVariants.{Linked, Deleted, Found, Read, Changed, Listed, Counted}
-use Rattle.history.specs.Kits.{Kit, State, Growth, state_of, labels_of, number_in, triple_in}
+use Rattle.lexicon.specs.Growths.{Growth}
+use Rattle.history.specs.Kits.{Kit, State, state_of, labels_of, number_in, triple_in}
 use Rattle.history.specs.Refusals.{first, none, word_refusals, sought_refusals, put_refusals, link_refusals, add_refusals, tie_refusals, change_refusals, list_refusals}
 
 -- refused: the answer is that refusal and what the call might change is as it was; otherwise P

@@ -1,5 +1,5 @@
 -- What a store is made of, by what its parts mean.
-use Rattle.std.specs.Prelude.{ℕ, Bool, false, List, Option}
+use Rattle.std.specs.Prelude.{ℕ, Bool, List, Option}
 use Rattle.std.specs.Option.{unwrap_or}
 use Rattle.script.specs.declared.Script.{Ghosts as Scripts}
 use Rattle.script.specs.Words.{spelled}
@@ -21,26 +21,6 @@ pub record Kit (S L R : Type 0) : Type 1 where
 -- the meaning that a script, a list and a record type give
 abbrev pub kit_of : {S A L R : Type 0} → Scripts S A → Lists L → Records R → Kit S L R
 kit_of s l r = record { spelling = s.spelling; roll = l.roll; good = r.sound }
-
--- how lists L grow
-pub record Growth (L : Type 0) : Type 1 where
-  -- whether there is room for a new word
-  pub room : L → List ℕ → Bool
-  -- what the list's own arrays hold after the word is entered
-  pub enters : L → List ℕ → L → Type 0
-
--- the growth that a growing list gives
-abbrev pub growth_of : {L : Type 0}
-    → record { roll : L → List (List ℕ); room : L → List ℕ → Bool; enters : L → List ℕ → L → Type 0 } → Growth L
-growth_of g = record { room = g.room; enters = g.enters }
-
--- growth where there is that room, whatever the list's own arrays hold
-abbrev pub any_growth : {L : Type 0} → (L → List ℕ → Bool) → Growth L
-any_growth room = record { room = room; enters = λ _ _ _. Unit {0} }
-
--- a list that is only read takes no word
-abbrev pub no_growth : {L : Type 0} → Growth L
-no_growth = any_growth (λ _ _. false)
 
 -- a store: its word list, its link table and its records
 pub record State (L R : Type 0) : Type 0 where

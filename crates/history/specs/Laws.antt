@@ -14,7 +14,8 @@ use Rattle.link_table.specs.declared.table.LinkTable.{LinkTable}
 use Rattle.listing.specs.declared.row.LinkRow.{LinkRow}
 use Rattle.history.specs.declared.replies.Link.{Link}
 use Rattle.history.specs.declared.replies.Reply.{Reply}
-use Rattle.history.specs.Kits.{Kit, State, any_growth, number_in, triple_in}
+use Rattle.lexicon.specs.Growths.{any_growth}
+use Rattle.history.specs.Kits.{Kit, State, number_in, triple_in}
 use Rattle.history.specs.Refusals.{first, word_refusals, sought_refusals, link_refusals, add_refusals, tie_refusals, read_refusals, change_refusals, list_refusals}
 use Rattle.history.specs.Calls.{Call, lacks, place_in, Ties, Adds, Deletes, Changes, Lists, find_of, read_of, rows_in, figures_of}
 use Rattle.history.specs.Runs.{event_of, History, PresentTriple, same_word, same_triple, present, handed, puts, deletes, Reached}
@@ -71,7 +72,7 @@ module _ {S L R : Type 0} (K : Kit S L R) where
     pub find : find_of K s.list s.table e.x e.y e.relation ≡ Ok (Some (record { x = a; y = b; number = e.link }))
 
   -- what listing a word answers: a row for each of its present triples that is asked for, and no other row
-  pub record Listing (s : State L R) (es : List (PresentTriple S R)) (x : List S) (q : ℕ) : Type 0 where
+  pub record ListsTriples (s : State L R) (es : List (PresentTriple S R)) (x : List S) (q : ℕ) : Type 0 where
     pub rows : (r : LinkRow) → In (rows_in K s.list s.table x q) r
         → (e : PresentTriple S R) × In (listed_triples K es x q) e × (r.relation ≡ e.relation)
         × (number_in K s.list e.y ≡ Some r.y) × (r.link ≡ e.link)
@@ -123,7 +124,7 @@ module _ {S L R : Type 0} (K : Kit S L R) where
     -- the link cells hold the codes of the present triples and nothing else
     pub codes : CodesInCells (code_in s.list) (cells_of s.table.array) (present K h)
     -- listing a known word gives its present triples
-    pub lists : (x : List S) (q : ℕ) (a : ℕ) → number_in K s.list x ≡ Some a → Listing s (present K h) x q
+    pub lists : (x : List S) (q : ℕ) (a : ℕ) → number_in K s.list x ≡ Some a → ListsTriples s (present K h) x q
     pub next : Next (present K h) s
 
   -- what a call that was answered n and left the state t says of every history that led to s

@@ -8,7 +8,8 @@ use Rattle.link_table.specs.declared.table.LinkTable.{LinkTable}
 use Rattle.listing.specs.declared.row.LinkRow.{LinkRow}
 use Rattle.history.specs.declared.replies.Reply.{Reply}
 use Rattle.history.specs.declared.replies.Reply.TheVariants.{Linked, Deleted, Found, Read, Changed, Listed, Counted}
-use Rattle.history.specs.Kits.{Kit, State, state_of, any_growth, labels_of}
+use Rattle.lexicon.specs.Growths.{any_growth}
+use Rattle.history.specs.Kits.{Kit, State, state_of, labels_of}
 use Rattle.history.specs.Calls.{Call, add, tie, delete, find, read, change, list, figures, Steps}
 
 -- a call and its answer

@@ -40,3 +40,8 @@ is_new roll room word = label_sized word && (not (is_some (number_of roll word))
 abbrev pub EnterLeaves : {L : Type 0} → (L → List (List ℕ)) → (L → List ℕ → L → Type 0) → L → List ℕ → L → Bool → Type 0
 EnterLeaves roll enters s word t true = enters s word t × (roll t ≡ roll s ++ word ∷ []) × Lawful (roll t)
 EnterLeaves roll enters s word t false = t ≡ s
+
+-- the same of a list that judges by its room whether the word is new
+abbrev pub EnterChanges : {L : Type 0} → (L → List (List ℕ)) → (L → List ℕ → Bool) → (L → List ℕ → L → Type 0) → L → List ℕ
+    → L → Type 0
+EnterChanges roll room enters s word t = EnterLeaves roll enters s word t (is_new (roll s) (room s word) word)

@@ -1,2 +1,3 @@
 pub mod Rolls
 pub mod Answers
+pub mod Growths

@@ -7,7 +7,7 @@
 
 ghost use Rattle.std.specs.Prelude.{◌≡◌, ℕ, ◌≤◌, Bool, ◌&&◌, List, length, IfOk, nat_le};
 ghost use Rattle.lexicon.specs.Rolls.{Lawful, label_sized};
-ghost use Rattle.lexicon.specs.Answers.{find_answer, word_answer, word_output, enter_answer, is_new, EnterLeaves};
+ghost use Rattle.lexicon.specs.Answers.{find_answer, word_answer, word_output, enter_answer, EnterChanges};
 
 // A list has at most this many words: their numbers, from 1 up, are 16-bit numbers.
 pub const MAX_WORDS: usize = 65_535;
@@ -60,8 +60,7 @@ pub trait GrowingList: ReadableList {
     // word without room; unless a new word is entered, the list stays as it was.
     fn enter(&mut self, word: &[u8]) -> Result<u16, ListFault>
         ensures answer { result ≡ enter_answer (Self.roll self.old) (room self.old word.now) word.now }
-        ensures after { EnterLeaves Self.roll enters self.old word.now self.new
-            (is_new (Self.roll self.old) (room self.old word.now) word.now) };
+        ensures after { EnterChanges Self.roll room enters self.old word.now self.new };
 }
 
 // The spelling has 1 to 128 labels.

@@ -1,6 +1,7 @@
 -- The text of each answer; byte 9 is a tab and byte 10 a line feed.
-use Rattle.std.specs.Prelude.{ℕ, List, [], ◌∷◌, ◌++◌, length, take, Ok, Err, codes, decimal, if◌then◌else◌, Result, nat_lt}
+use Rattle.std.specs.Prelude.{ℕ, List, [], ◌∷◌, ◌++◌, length, take, Ok, Err, codes, decimal, if◌then◌else◌, Result, nat_le, nat_lt}
 use Rattle.std.specs.List.{flat_map}
+use Rattle.output.specs.Written.{written}
 use Rattle.refusal.specs.declared.Refusal.{Refusal}
 use Rattle.refusal.specs.declared.Report.{Report}
 use Rattle.refusal.specs.Reports.{report_of, layer_number, side_number}
@@ -16,6 +17,10 @@ printed_rows rows = take rows.count rows.rows
 -- rows with one more, of which 100 have a place
 abbrev pub rows_with : List LineRow → LineRow → List LineRow
 rows_with rows row = if nat_lt (length rows) 100 then rows ++ row ∷ [] else rows
+
+-- an output with a text from its start on, if it has the 4,096 bytes that no text exceeds
+abbrev pub with_text : List ℕ → List ℕ → List ℕ
+with_text out text = if nat_le 4096 (length out) then written out 0 text else out
 
 -- a number, and the byte that ends it
 abbrev pub number_text : ℕ → ℕ → List ℕ

@@ -7,8 +7,7 @@
 
 ghost use Rattle.std.specs.Prelude.{◌≡◌, ◌+◌, ◌*◌, ◌≤◌, ◌++◌, length, if◌then◌else◌, Some, None, nat_le};
 ghost use Rattle.std.specs.List.{flat_map};
-ghost use Rattle.output.specs.Written.{written};
-ghost use Rattle.line_text.specs.Texts.{number_text, three_text, row_text, rows_text, report_line, done_text, answer_text};
+ghost use Rattle.line_text.specs.Texts.{number_text, three_text, row_text, rows_text, report_line, done_text, answer_text, with_text};
 
 use arrayvec::ArrayVec;
 use itoa::Buffer;
@@ -137,8 +136,7 @@ fn text_of(answer: &Result<LineAnswer, Refusal>) -> Text
 // that are; the rest stays. Where the output has fewer than 4,096 bytes it writes nothing.
 pub fn write_answer(answer: &Result<LineAnswer, Refusal>, out: &mut [u8]) -> Option<usize>
     ensures size { result ≡ (if nat_le 4096 (length out.old) then Some (length (answer_text answer.now)) else None) }
-    ensures after { out.new ≡
-        (if nat_le 4096 (length out.old) then written out.old 0 (answer_text answer.now) else out.old) }
+    ensures after { out.new ≡ with_text out.old (answer_text answer.now) }
 {
     if out.len() < TEXT_BYTES {
         return None;

@@ -14,7 +14,8 @@ use Rattle.listing.specs.declared.row.LinkRow.{LinkRow}
 use Rattle.history.specs.declared.replies.Link.{Link}
 use Rattle.history.specs.declared.replies.Reply.{Reply}
 use Rattle.history.specs.declared.replies.Reply.TheVariants.{Linked, Deleted, Found, Read, Changed, Listed, Counted}
-use Rattle.history.specs.Kits.{Kit, Growth, kit_of, State}
+use Rattle.lexicon.specs.Growths.{Growth}
+use Rattle.history.specs.Kits.{Kit, kit_of, State}
 use Rattle.history.specs.Calls.{Call, Steps, find_of, refusal_of_list, rows_in}
 use Rattle.history.specs.Calls as call
 use Rattle.history.specs.Laws.{Onward}
@@ -99,8 +100,8 @@ MakesCall s c n t =
     ((out out' : List LinkRow) × Steps trie_tally_kit trie_growth s out c n t out') × Onward trie_tally_kit s c n t
 
 -- the call was made, and `text` says that it is done or refused
-abbrev pub Done : Store → Call ℕ Tally → List ℕ → Store → Type 0
-Done s c text t = (n : Result (Reply Tally) Refusal) × MakesCall s c n t × (text ≡ done_line n)
+abbrev pub SaidDone : Store → Call ℕ Tally → List ℕ → Store → Type 0
+SaidDone s c text t = (n : Result (Reply Tally) Refusal) × MakesCall s c n t × (text ≡ done_line n)
 
 -- a share was answered in s by its rule, it is the share in the counts of the triples that are present after every
 -- history that led to s, and `text` is printed
@@ -112,9 +113,9 @@ Shared s x y q text =
 -- the line that asks for this was carried out in s, left t, and `text` is printed
 abbrev pub Carried : Store → Option Asked → List ℕ → Store → Type 0
 Carried s None text t = (text ≡ refused_text MalformedLine) × (t ≡ s)
-Carried s (Some (add x y q c)) text t = Done s (call.add x y q (tally c)) text t
-Carried s (Some (tie x y q c)) text t = Done s (call.tie x y q (tally c)) text t
-Carried s (Some (delete x y q)) text t = Done s (call.delete x y q) text t
+Carried s (Some (add x y q c)) text t = SaidDone s (call.add x y q (tally c)) text t
+Carried s (Some (tie x y q c)) text t = SaidDone s (call.tie x y q (tally c)) text t
+Carried s (Some (delete x y q)) text t = SaidDone s (call.delete x y q) text t
 Carried s (Some (find x y q)) text t =
     ((n : Result (Reply Tally) Refusal) × MakesCall s (call.find x y q) n t)
     × (text ≡ found_line s.records (find_of trie_tally_kit s.list s.table x y q)) × (t ≡ s)

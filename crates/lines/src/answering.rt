@@ -4,7 +4,7 @@ ghost use Rattle.history.specs.Kits.{state_of};
 ghost use Rattle.requests.specs.Requests.{growing_call_of};
 ghost use Rattle.command.specs.Commands.{seen, find as find_asked, list as list_asked, share as share_asked};
 ghost use Rattle.line_text.specs.Texts.{answer_text};
-ghost use Rattle.lines.specs.Lines.{Carried, Done, found_text, listed_text};
+ghost use Rattle.lines.specs.Lines.{Carried, SaidDone, found_text, listed_text};
 
 use super::listing_rows::counted_rows;
 use command::Command;
@@ -28,7 +28,7 @@ fn done(
     records: &mut [Tally],
     request: GrowingRequest<'_, u8, Tally>,
 ) -> Result<LineAnswer, Refusal>
-    ensures { Done (state_of list.old table.old records.old) (growing_call_of request.entry) (answer_text result)
+    ensures { SaidDone (state_of list.old table.old records.old) (growing_call_of request.entry) (answer_text result)
         (state_of list.new table.new records.new) }
 {
     let mut nowhere: [LinkRow; 0] = [];

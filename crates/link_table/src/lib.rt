@@ -8,11 +8,13 @@
 mod changing;
 mod codes;
 mod faults;
+mod meanings;
 mod numbers;
 mod reading;
 mod table;
 mod triple;
 
 pub use faults::LinkFault;
+pub use meanings::meaning;
 pub use table::LinkTable;
 pub use triple::Triple;

@@ -79,3 +79,62 @@ fn refusals_are_reported(rt: HostRuntime) -> Result<(), Fail> {
     );
     Ok(())
 }
+
+#[test]
+fn refusals_are_said_in_words(rt: HostRuntime) -> Result<(), Fail> {
+    let cases = [
+        (
+            Refusal::WordLength(Side::First),
+            "the first word is too short or too long: hand in 1 to 32 symbols, or 1 to 128 labels",
+        ),
+        (
+            Refusal::RelationZero,
+            "the relation is 0: hand in one from 1 to 255",
+        ),
+        (
+            Refusal::RecordUnsound,
+            "the record is not sound: see which records its type lets through",
+        ),
+        (
+            Refusal::UnknownWord(Side::Second),
+            "the second word is not in the list: add it, or ask for another",
+        ),
+        (
+            Refusal::NoRoom(Side::Neither),
+            "the list has no room for the word: make a larger list",
+        ),
+        (
+            Refusal::TriplePresent,
+            "the triple is present already: change its record by its link number",
+        ),
+        (
+            Refusal::TripleAbsent,
+            "the triple is not present: add it first",
+        ),
+        (
+            Refusal::NoPlace,
+            "the link cells have no place for the triple: make a larger cell array",
+        ),
+        (
+            Refusal::NumbersHeld,
+            "all link numbers are held: delete a triple, or make a larger index and more records",
+        ),
+        (
+            Refusal::UnknownLink,
+            "no present triple has the link number: it was taken back, or never handed out",
+        ),
+        (
+            Refusal::OutputTooShort,
+            "the output is too short for the answer: lend a longer one",
+        ),
+        (
+            Refusal::MalformedLine,
+            "the line is no command: see the line format",
+        ),
+    ];
+    for (refusal, text) in cases {
+        let said = refusal.to_string(rt.alloc())?;
+        assert!(rt; said.as_str() == text);
+    }
+    Ok(())
+}

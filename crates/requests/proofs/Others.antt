@@ -3,7 +3,8 @@ use Rattle.std.proofs.Common.{◌≡◌, List, Result, sym, subst}
 use Rattle.refusal.specs.declared.Refusal.{Refusal}
 use Rattle.listing.specs.declared.row.LinkRow.{LinkRow}
 use Rattle.history.specs.declared.replies.Reply.{Reply}
-use Rattle.history.specs.Kits.{Kit, Growth, State, no_growth}
+use Rattle.lexicon.specs.Growths.{Growth, no_growth}
+use Rattle.history.specs.Kits.{Kit, State}
 use Rattle.history.specs.Calls.{Steps}
 use Rattle.requests.specs.declared.request.Request.{Request}
 use Rattle.requests.specs.declared.request.Request.TheVariants.{Tie, Delete, Find, Read, Change, List as ListOf, Figures}

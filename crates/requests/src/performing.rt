@@ -2,7 +2,8 @@
 //
 // There are two entries, since add needs a list that grows and the other calls do not; each takes the
 // table, the list and the records side by side, a rule of the project.
-ghost use Rattle.history.specs.Kits.{kit_of, growth_of, no_growth, state_of};
+ghost use Rattle.lexicon.specs.Growths.{growth_of, no_growth};
+ghost use Rattle.history.specs.Kits.{kit_of, state_of};
 ghost use Rattle.history.specs.Calls.{Steps};
 ghost use Rattle.history.specs.Laws.{Onward};
 ghost use Rattle.requests.specs.Requests.{call_of, growing_call_of};

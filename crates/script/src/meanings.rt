@@ -12,7 +12,8 @@ pub fn meaning()
     ensures signs { MeaningOfSigns }
 {}
 
-// Of a triple of words a clone is the same value.
+// Of a triple of words a clone is the same value, and never fails.
 pub fn meaning_of_copies<'a, S: 'a>()
-    ensures { (words copy : _) → ⟦<WordTriple<'a, S> as Clone>⟧.is_clone words copy ↔ (copy ≡ words) }
+    ensures infallible { (words : _) → ⟦<WordTriple<'a, S> as Clone>⟧.is_infallible words }
+    ensures copy { (words copy : _) → ⟦<WordTriple<'a, S> as Clone>⟧.is_clone words copy ↔ (copy ≡ words) }
 {}

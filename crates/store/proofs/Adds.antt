@@ -9,7 +9,8 @@ use Rattle.lexicon.specs.Answers.{EnterLeaves}
 use Rattle.lexicon.proofs.Numbers.{number_from_kept, number_from_last}
 use Rattle.link_table.specs.declared.table.LinkTable.{LinkTable}
 use Rattle.history.specs.declared.replies.Link.{Link}
-use Rattle.history.specs.Kits.{Kit, Growth, state_of, labels_of, number_in}
+use Rattle.lexicon.specs.Growths.{Growth}
+use Rattle.history.specs.Kits.{Kit, state_of, labels_of, number_in}
 use Rattle.history.specs.Refusals.{first, none, put_refusals}
 use Rattle.history.specs.Calls.{links_in, lacks, grows, fine, refusal_of_add, Adds}
 use Rattle.store.specs.Words.{entered_answer, EnteredWord}

@@ -7,7 +7,7 @@ use Rattle.script.specs.Words.{word_sized, spelled}
 use Rattle.lexicon.specs.Rolls.{number_of}
 use Rattle.lexicon.specs.Answers.{EnterLeaves}
 use Rattle.link_table.specs.declared.triple.Triple.{Triple}
-use Rattle.history.specs.Kits.{Growth}
+use Rattle.lexicon.specs.Growths.{Growth}
 use Rattle.history.specs.Refusals.{first, none, word_refusals, unknown_refusals, put_refusals}
 use Rattle.store.specs.declared.labels.SpelledWord.{SpelledWord}
 use Rattle.store.specs.declared.labels.WordPair.{WordPair}

@@ -2,7 +2,8 @@
 // records it is lent side by side, and the record of a new triple stands beside its words: a rule of
 // the project.
 ghost use Rattle.std.specs.Prelude.{◌≡◌};
-ghost use Rattle.history.specs.Kits.{kit_of, growth_of, state_of};
+ghost use Rattle.lexicon.specs.Growths.{growth_of};
+ghost use Rattle.history.specs.Kits.{kit_of, state_of};
 ghost use Rattle.history.specs.Calls.{Adds, Ties, Deletes, Changes};
 ghost use Rattle.store.specs.Links.{word_kit, record_kit};
 

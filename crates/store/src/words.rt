@@ -1,7 +1,7 @@
 // From words of symbols to labels, and from labels to numbers of words.
 ghost use Rattle.std.specs.Prelude.{◌≡◌};
 ghost use Rattle.lexicon.specs.Rolls.{number_of};
-ghost use Rattle.history.specs.Kits.{growth_of};
+ghost use Rattle.lexicon.specs.Growths.{growth_of};
 ghost use Rattle.store.specs.Words.{labels_in, SizeTested, Spelt, PairSpelt, Admitted, KnownPair, EnteredWord};
 
 use super::labels::{SpelledWord, WordPair};

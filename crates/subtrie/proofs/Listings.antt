@@ -15,7 +15,7 @@ use Rattle.double_array.proofs.Walks.{number_none}
 use Rattle.double_array.proofs.Spells.{named_of}
 use Rattle.subtrie.specs.Below.{at_found, numbers_below, numbers_from}
 use Rattle.subtrie.specs.Order.{Before}
-use Rattle.subtrie.specs.Laws.{Listed, NumbersBelow, Ordered}
+use Rattle.subtrie.specs.Laws.{ListsBelow, NumbersBelow, Ordered}
 use Rattle.members.proofs.Members.{in_map, map_in, map_through}
 use Rattle.subtrie.proofs.Orders.{before_front, before_self, rising_map, rising_at}
 use Rattle.subtrie.proofs.Paths.{number_on, below}
@@ -76,7 +76,7 @@ module _ (cs : List Cell) (is : List ℕ) (sound : Sound cs is) (p : List ℕ) w
       (cases_lt (length cs) 2) in
       (o.0, o.1, short)
 
-  listed_at : (o : Option ℕ) → cell_at cs p ≡ o → Listed cs p (at_found (numbers_below (length cs) cs) o)
+  listed_at : (o : Option ℕ) → cell_at cs p ≡ o → ListsBelow cs p (at_found (numbers_below (length cs) cs) o)
   listed_at None e = record {
     paths = [];
     numbers = refl;
@@ -97,11 +97,11 @@ module _ (cs : List Cell) (is : List ℕ) (sound : Sound cs is) (p : List ℕ) w
             in_map front b.paths r (b.whole r u h.1 h.2 (sym (number_split cs p r s e h.1) ∙ held));
       }
 
-  pub listed : Listed cs p (numbers_from cs p)
+  pub listed : ListsBelow cs p (numbers_from cs p)
   listed = listed_at (cell_at cs p) refl
 
 -- what follows for the numbers
-module _ (cs : List Cell) (p ns : List ℕ) (l : Listed cs p ns) where
+module _ (cs : List Cell) (p ns : List ℕ) (l : ListsBelow cs p ns) where
   pub members : NumbersBelow cs p ns
   members = record {
     held = λ u i.

@@ -24,6 +24,10 @@ unfoldable pub numbers_below : ℕ → List Cell → ℕ → List ℕ
 numbers_below zero cs s = leaf_or (number (at cs s).base) []
 numbers_below (suc left) cs s = leaf_or (number (at cs s).base) (edge_numbers (numbers_below left cs) cs s 257)
 
+-- the numbers past the edges of s by at most `left` codes after each, in rising code order
+abbrev pub numbers_past : ℕ → List Cell → ℕ → List ℕ
+numbers_past left cs s = edge_numbers (numbers_below left cs) cs s 257
+
 -- the numbers below the cell that the path p leads to
 abbrev pub numbers_from : List Cell → List ℕ → List ℕ
 numbers_from cs p = at_found (numbers_below (length cs) cs) (cell_at cs p)

@@ -6,7 +6,7 @@ use Rattle.members.specs.Lists.{In}
 use Rattle.subtrie.specs.Order.{Before, PathsRise}
 
 -- ns are the numbers of the held paths that begin with p, each path once and in the order of the paths
-pub record Listed (cs : List Cell) (p ns : List ℕ) : Type 0 where
+pub record ListsBelow (cs : List Cell) (p ns : List ℕ) : Type 0 where
   pub paths : List (List ℕ)
   pub numbers : map (number_at cs) paths ≡ map Some ns
   pub rising : PathsRise paths

@@ -12,7 +12,7 @@ ghost use Rattle.cells.specs.Cells.{at, number};
 ghost use Rattle.output.specs.Written.{Filled};
 ghost use Rattle.double_array.specs.Views.{cells_of, index_of};
 ghost use Rattle.subtrie.specs.Below.{numbers_from};
-ghost use Rattle.subtrie.specs.Laws.{Listed, NumbersBelow, Ordered};
+ghost use Rattle.subtrie.specs.Laws.{ListsBelow, NumbersBelow, Ordered};
 
 use double_array::{DoubleArray, leaf_number};
 use room::room_below;
@@ -43,7 +43,7 @@ fn write_from(array: &DoubleArray, beginning: &[u16], out: &mut [u32]) -> Option
 // is too short it answers none, and nothing is written.
 pub fn numbers_below(array: &DoubleArray, beginning: &[u16], out: &mut [u32]) -> Option<usize>
     ensures output { Filled (numbers_from (cells_of array.now) beginning.now) out.old result out.new }
-    ensures paths { Listed (cells_of array.now) beginning.now (numbers_from (cells_of array.now) beginning.now) }
+    ensures paths { ListsBelow (cells_of array.now) beginning.now (numbers_from (cells_of array.now) beginning.now) }
     ensures members { NumbersBelow (cells_of array.now) beginning.now (numbers_from (cells_of array.now) beginning.now) }
     ensures order { Ordered (cells_of array.now) (index_of array.now) (numbers_from (cells_of array.now) beginning.now) }
 {

@@ -4,7 +4,7 @@
 // the array, the cell and the codes left, here and in the walks that write.
 ghost use Rattle.std.specs.Prelude.{◌≡◌};
 ghost use Rattle.double_array.specs.Views.{cells_of};
-ghost use Rattle.subtrie.specs.Below.{edge_numbers, numbers_below, room_after};
+ghost use Rattle.subtrie.specs.Below.{numbers_past, numbers_below, room_after};
 
 use super::leaf_at;
 use double_array::DoubleArray;
@@ -25,8 +25,7 @@ pub(super) fn room_below(array: &DoubleArray, s: usize, left: usize, room: usize
 // The same for the edges of `s`, with at most `left` codes past each.
 #[cycle(room_below_room_edges)]
 fn room_edges(array: &DoubleArray, s: usize, left: usize, room: usize) -> Option<usize>
-    ensures { result ≡ room_after room
-        (edge_numbers (numbers_below left (cells_of array.now)) (cells_of array.now) s 257) }
+    ensures { result ≡ room_after room (numbers_past left (cells_of array.now) s) }
 {
     let mut rest = room;
     for code in 1..258 {

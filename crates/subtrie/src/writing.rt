@@ -5,7 +5,7 @@
 ghost use Rattle.std.specs.Prelude.{◌≡◌, ◌+◌, ◌≤◌, length};
 ghost use Rattle.output.specs.Written.{written};
 ghost use Rattle.double_array.specs.Views.{cells_of};
-ghost use Rattle.subtrie.specs.Below.{edge_numbers, numbers_below};
+ghost use Rattle.subtrie.specs.Below.{numbers_past, numbers_below};
 
 use super::leaf_at;
 use double_array::DoubleArray;
@@ -37,11 +37,9 @@ pub(super) fn write_below(
 // The same for the edges of `s`, with at most `left` codes past each.
 #[cycle(write_below_write_edges)]
 fn write_edges(array: &DoubleArray, s: usize, left: usize, out: &mut [u32], at: usize) -> usize
-    requires { at + length (edge_numbers (numbers_below left (cells_of array.now)) (cells_of array.now) s 257) ≤ length
-        out.old }
-    ensures end { result ≡ at + length (edge_numbers (numbers_below left (cells_of array.now)) (cells_of array.now) s 257) }
-    ensures after { out.new ≡ written out.old at
-        (edge_numbers (numbers_below left (cells_of array.now)) (cells_of array.now) s 257) }
+    requires { at + length (numbers_past left (cells_of array.now) s) ≤ length out.old }
+    ensures end { result ≡ at + length (numbers_past left (cells_of array.now) s) }
+    ensures after { out.new ≡ written out.old at (numbers_past left (cells_of array.now) s) }
 {
     let mut next = at;
     for code in 1..258 {

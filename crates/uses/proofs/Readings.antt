@@ -8,7 +8,8 @@ use Rattle.link_table.specs.declared.table.LinkTable.{LinkTable}
 use Rattle.history.specs.declared.replies.Link.{Link}
 use Rattle.history.specs.declared.replies.Reading.{Reading}
 use Rattle.history.specs.declared.replies.Reply.TheVariants.{Linked, Deleted}
-use Rattle.history.specs.Kits.{Kit, Growth, State, state_of}
+use Rattle.lexicon.specs.Growths.{Growth}
+use Rattle.history.specs.Kits.{Kit, State, state_of}
 use Rattle.history.specs.Calls.{Adds, Ties, Deletes, read_of, add, tie, delete, replied}
 use Rattle.history.specs.Runs.{PresentTriple, present_triple, event_of, History, present, put_in, handed_by, same_triple, Reached}
 use Rattle.history.specs.Laws.{Law}

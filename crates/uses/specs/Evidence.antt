@@ -5,7 +5,8 @@ use Rattle.refusal.specs.declared.Refusal.{Refusal}
 use Rattle.history.specs.declared.replies.Reading.{Reading}
 use Rattle.script.specs.declared.word_triple.WordTriple.{WordTriple}
 use Rattle.link_table.specs.Tables.{IsNewTable}
-use Rattle.history.specs.Kits.{Kit, Growth, State, state_of, number_in}
+use Rattle.lexicon.specs.Growths.{Growth}
+use Rattle.history.specs.Kits.{Kit, State, state_of, number_in}
 use Rattle.link_table.specs.declared.table.LinkTable.{LinkTable}
 use Rattle.history.specs.declared.replies.Link.{Link}
 use Rattle.history.specs.Calls.{Adds, Ties, Deletes, read_of}
@@ -62,7 +63,9 @@ module _ {S L R : Type 0} (K : Kit S L R) (G : Growth L) (pair other : WordTripl
       (m : Result Link Refusal) × (t : State L R) × Adds K G s pair.x.now pair.y.now pair.relation r m t
       × AfterPair t m
 
-  -- over the list and the records, with a table newly made of so many cells and index places
-  abbrev pub RunsFrom : ℕ → ℕ → L → List R → Type 0
-  RunsFrom cells index list records =
-      (table : LinkTable) × IsNewTable cells index (length records) table × Runs (state_of list table records)
+-- the run over the list and the records, with a table newly made of so many cells and index places
+abbrev pub RunsFrom : {S L R : Type 0} → Kit S L R → Growth L → ℕ → ℕ → L → List R → WordTriple S → WordTriple S → R
+    → Result (Reading R) Refusal → L → List R → Type 0
+RunsFrom K G cells index list records pair other r n l rs =
+    (table : LinkTable) × IsNewTable cells index (length records) table
+    × Runs K G pair other r n l rs (state_of list table records)

@@ -1,6 +1,6 @@
 // Callers to copy from: what a program does with a store, and how its own contract rests on the law.
 //
-// `evidence_of` makes a store, ties pairs, deletes one and reads by number; its contract says that the
+// `evidence_of` makes a store, adds pairs, deletes one and reads by number; its contract says that the
 // number it was handed still leads to its own pair and record; `evidence_at` reads by a number, and its
 // contract says the same of every history. `new_overlaid` and `perform_overlaid` are
 // a store over a list above another (crate `overlay`), for which the law holds like for any list.

@@ -1,7 +1,8 @@
 // A store over a list above another: every call leads every history on, and the law with it.
 ghost use Rattle.std.specs.Prelude.{[], length, vec_len};
 ghost use Rattle.link_table.specs.Tables.{IsNewTable};
-ghost use Rattle.history.specs.Kits.{kit_of, growth_of, state_of};
+ghost use Rattle.lexicon.specs.Growths.{growth_of};
+ghost use Rattle.history.specs.Kits.{kit_of, state_of};
 ghost use Rattle.history.specs.Calls.{Steps};
 ghost use Rattle.history.specs.Runs.{Reached};
 ghost use Rattle.history.specs.Laws.{Law, Onward};

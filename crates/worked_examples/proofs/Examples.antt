@@ -3,7 +3,7 @@ use Rattle.std.proofs.Common.{ℕ, [], ◌∷◌, replicate, pos, negsuc, refl, 
 use Rattle.cells.specs.Cells.{free_cell, codes_below}
 use Rattle.cells.specs.Placing.{Arrays, moved_list}
 use Rattle.cells.specs.Examples.{with_cells}
-use Rattle.worked_examples.specs.Examples.{a_word, b_word, ab_word, held_by, TrieParts, list_reported, Examples}
+use Rattle.worked_examples.specs.Examples.{a_word, b_word, ab_word, held_by, TrieParts, list_reported, WordExamples}
 use Rattle.worked_examples.proofs.Words.{new_held, entered, refused}
 use Rattle.worked_examples.proofs.Words.{starts as list_starts}
 
@@ -38,7 +38,7 @@ with_ab = record {
 abbrev counted : Arrays → ℕ → TrieParts
 counted xs n = record { cells = xs.cells; index = xs.index; count = n }
 
-pub examples : Examples
+pub examples : WordExamples
 unfolding codes_below moved_list
 examples = record {
   three_words = λ run.

@@ -19,7 +19,7 @@ use Rattle.history.specs.declared.replies.Link.{Link}
 use Rattle.history.specs.Kits.{Kit, State, number_in, triple_in}
 use Rattle.history.specs.Refusals.{first, link_refusals, tie_refusals, sought_refusals}
 use Rattle.history.specs.Calls.{Decided, LinkMade, figures_of, refusal_of_tie, refusal_of_sought}
-use Rattle.worked_examples.specs.Triples.{Word, NewStore, Tied, Deleted}
+use Rattle.worked_examples.specs.Triples.{Word, NewStore, Tied, DeletesTriple}
 use Rattle.worked_examples.proofs.Starts.{new_cells}
 
 -- the triple of two words' numbers and a relation
@@ -123,7 +123,7 @@ module _ {S L R : Type 0} (K : Kit S L R) where
         subst (λ (o : Option Refusal). Decided o s n t (LinkMade K s x.symbols y.symbols q T.kept n t)) (judged T.kept false T.sound absent spare (lacks (index_of s.table.array))) T.ties
 
     -- a present triple is deleted
-    pub taken : (n : Result ℕ Refusal) → Deleted K s x.symbols y.symbols q n t → is_some (number_at cs (path_of_triple (triple a q b))) ≡ true
+    pub taken : (n : Result ℕ Refusal) → DeletesTriple K s x.symbols y.symbols q n t → is_some (number_at cs (path_of_triple (triple a q b))) ≡ true
         → (ds : List Cell) → ((is : List ℕ) → cells_in (take_out cs is (path_of_triple (triple a q b))) ≡ Some ds)
         → (u : ℕ) × (n ≡ Ok u) × Out s.table (triple a q b) u t.table × KnownState l t ds (k - 1)
     taken n D there ds step =

@@ -65,7 +65,7 @@ abbrev pub no_room : Report
 no_room = record { number = 5; layer = WordList; side = Neither }
 
 -- what comes of them
-pub record Examples : Type 0 where
+pub record WordExamples : Type 0 where
   -- in a list of 104 cells a, b and ab get the numbers 1, 2 and 3; the leaf of a moves from 2 to 4, and its index entry
   -- follows
   pub three_words : (run : ThreeWords 104) → (run.a_answer ≡ Ok 1) × (run.b_answer ≡ Ok 2) × (run.ab_answer ≡ Ok 3)

@@ -48,7 +48,7 @@ module _ {S L R : Type 0} (K : Kit S L R) where
     pub ties : Ties K s x y q kept n t
 
   -- the triple of x, q and y was deleted: the answer was n, and it left t
-  pub record Deleted (s : State L R) (x y : List S) (q : ℕ) (n : Result ℕ Refusal) (t : State L R) : Type 0 where
+  pub record DeletesTriple (s : State L R) (x y : List S) (q : ℕ) (n : Result ℕ Refusal) (t : State L R) : Type 0 where
     pub deletes : Deletes K s.list s.table x y q n t.table
     pub rest : t ≡ state_of s.list t.table s.records
 
@@ -77,7 +77,7 @@ module _ {S L R : Type 0} (K : Kit S L R) where
     pub ties : ThreeTies n
     pub after : State L R
     pub answer : Result ℕ Refusal
-    pub deleted : Deleted ties.after ties.fresh.one.symbols ties.fresh.two.symbols 5 answer after
+    pub deleted : DeletesTriple ties.after ties.fresh.one.symbols ties.fresh.two.symbols 5 answer after
 
   -- what comes of them; the list stays as it was
   pub record TripleExamples : Type 0 where

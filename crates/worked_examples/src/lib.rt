@@ -9,7 +9,7 @@
 #![tactic(auto)]
 
 ghost use Rattle.history.specs.Kits.{kit_of};
-ghost use Rattle.worked_examples.specs.Examples.{Examples};
+ghost use Rattle.worked_examples.specs.Examples.{WordExamples};
 ghost use Rattle.worked_examples.specs.Triples.{TripleExamples};
 
 use lexicon::ReadableList;
@@ -18,6 +18,6 @@ use script::Script;
 
 // The rules, worked out on small lists and stores.
 pub fn worked_examples<S: Script, L: ReadableList, R: Record>()
-    ensures words { Examples }
+    ensures words { WordExamples }
     ensures triples { TripleExamples (kit_of S.Script L.ReadableList R.Record) }
 {}

@@ -1,4 +1,5 @@
-use Rattle.history.specs.Kits.{kit_of, no_growth}
+use Rattle.lexicon.specs.Growths.{no_growth}
+use Rattle.history.specs.Kits.{kit_of}
 use Rattle.requests.specs.Requests.{call_of}
 use Rattle.history.proofs.Onwards.{onward}
 use Rattle.requests.proofs.performing.perform.Goals as goal

@@ -1,6 +1,7 @@
 use Rattle.std.proofs.Common.{Ok, Err, rules}
 use Rattle.refusal.specs.declared.Side.TheVariants.{First, Second}
-use Rattle.history.specs.Kits.{kit_of, Growth}
+use Rattle.lexicon.specs.Growths.{Growth}
+use Rattle.history.specs.Kits.{kit_of}
 use Rattle.store.proofs.Adds.{stepped, add_refused, add_no_x, add_no_y, add_joined}
 use Rattle.store.proofs.table.RelationTable.add.Goals as goal
 
