@@ -1,5 +1,6 @@
 -- The placing rule: how a node gets a child, a family moves, and a path is entered.
 use Rattle.std.specs.Prelude.{◌≡◌, ℕ, zero, suc, ◌+◌, ◌<◌, ◌≤◌, Bool, true, cond, ◌&&◌, List, [], ◌∷◌, ◌++◌, map, length, ℤ, pos, negsuc, Some, None, Option, ◌==◌, int_lt, nat_lt, slice_index, slice_set}
+use Rattle.std.specs.Option.{option_map_or}
 use Rattle.std.specs.List.{range_with_len}
 use Rattle.cells.specs.declared.Cell.{Cell}
 use Rattle.cells.specs.Cells.{free_cell, at, nat, base_of, parent, entry, same_int, is_free, is_leaf, child, child_codes, some_code, all_codes}
@@ -128,8 +129,7 @@ extend more cs is s a n =
 
 -- one answer where nothing was found, and f at what was
 abbrev pub found_or : Option ℕ → Option Arrays → (ℕ → Option Arrays) → Option Arrays
-found_or None o f = o
-found_or (Some t) o f = f t
+found_or found other f = option_map_or f found other
 
 -- the path is entered from s on, with the number n + 1: the edges that are there are followed; at the first code
 -- without one s gets the new child, unless s is a leaf

@@ -1,12 +1,11 @@
 -- Walking from the root along a path, and climbing from a cell to the root.
-use Rattle.std.specs.Prelude.{ℕ, zero, suc, ◌-◌, Bool, false, cond, List, [], ◌∷◌, length, Some, None, Option, ◌==◌}
+use Rattle.std.specs.Prelude.{ℕ, zero, suc, ◌-◌, Bool, false, cond, List, [], ◌∷◌, length, Some, None, Option, option_and_then, ◌==◌}
 use Rattle.cells.specs.declared.Cell.{Cell}
 use Rattle.cells.specs.Cells.{at, base_of, parent, number, child, all_codes}
 
 -- the answer of f at what was found, and none where nothing was
 abbrev pub onward : {X Y : Type 0} → Option X → (X → Option Y) → Option Y
-onward None f = None
-onward (Some x) f = f x
+onward o f = option_and_then f o
 
 -- the cell that the codes lead to from s
 abbrev pub walk : List Cell → ℕ → List ℕ → Option ℕ

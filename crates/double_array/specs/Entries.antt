@@ -1,5 +1,6 @@
 -- Which paths can be entered, and what an entry leaves.
 use Rattle.std.specs.Prelude.{◌≡◌, ℕ, ◌-◌, Bool, cond, not, ◌&&◌, List, [], ◌∷◌, length, Some, None, Ok, Err, Option, Result, ◌==◌, nat_lt, slice_index}
+use Rattle.std.specs.Option.{option_map_or}
 use Rattle.cells.specs.declared.Cell.{Cell}
 use Rattle.cells.specs.Cells.{is_leaf, child, some_code, all_codes}
 use Rattle.cells.specs.Placing.{Arrays, extend, enter}
@@ -15,8 +16,7 @@ pub record Followed : Type 0 where
 
 -- the way goes on where an edge was found, and stops where none was
 abbrev pub or_stop : Option ℕ → Followed → (ℕ → Followed) → Followed
-or_stop None here on = here
-or_stop (Some t) here on = on t
+or_stop found here on = option_map_or on found here
 
 -- the edges of the path are followed from s as far as they go
 abbrev pub follow : List Cell → ℕ → List ℕ → Followed

@@ -1,18 +1,17 @@
 -- The numbers below a cell.
 use Rattle.std.specs.Prelude.{ℕ, zero, suc, ◌-◌, cond, List, [], ◌∷◌, ◌++◌, length, Some, None, Option, nat_le}
+use Rattle.std.specs.Option.{option_map_or}
 use Rattle.cells.specs.declared.Cell.{Cell}
 use Rattle.cells.specs.Cells.{at, number, child}
 use Rattle.cells.specs.Walking.{cell_at}
 
 -- what f has at the cell that was found, and nothing where none was
 abbrev pub at_found : (ℕ → List ℕ) → Option ℕ → List ℕ
-at_found f None = []
-at_found f (Some t) = f t
+at_found f found = option_map_or f found []
 
 -- a leaf has its number alone, and any other cell the numbers ns
 abbrev pub leaf_or : Option ℕ → List ℕ → List ℕ
-leaf_or None ns = ns
-leaf_or (Some n) ns = n ∷ []
+leaf_or leaf ns = option_map_or (λ n. n ∷ []) leaf ns
 
 -- the numbers of the edges of s by the last k codes, those from 258 - k up, where f has the numbers below a cell
 unfoldable pub edge_numbers : (ℕ → List ℕ) → List Cell → ℕ → ℕ → List ℕ
