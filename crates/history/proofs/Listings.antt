@@ -2,7 +2,7 @@
 use Rattle.std.proofs.Common.{◌≡◌, ℕ, zero, suc, Bool, true, ◌&&◌, List, [], ◌∷◌, length, Some, sum_by, Option, unwrap_or, sym, refl, ap, ◌∙◌, subst, ⊎_elim, le_of_eq, le_antisymm, arith}
 use Rattle.std.proofs.lemmas.Slice.Eq.{bytes_eq-Decides}
 use Rattle.std.proofs.lemmas.Bool.{eqb-true, eqb-false, eq-eqb, and_parts, and_from}
-use Rattle.members.specs.Lists.{In, Apart}
+use Rattle.members.specs.Lists.{In, Apart, Rises}
 use Rattle.cells.proofs.Basics.{some_same}
 use Rattle.members.proofs.Pigeons.{sums_under, ones, in_kept, from_kept, apart_kept}
 use Rattle.lexicon.specs.Rolls.{number_of}
@@ -10,7 +10,7 @@ use Rattle.link_table.specs.Tables.{found, coded}
 use Rattle.link_table.specs.declared.table.LinkTable.{LinkTable}
 use Rattle.link_table.specs.declared.triple.Triple.{Triple}
 use Rattle.link_table.proofs.Tables.{lawful}
-use Rattle.listing.specs.Rows.{rows_of, Asks, RowsRise}
+use Rattle.listing.specs.Rows.{rows_of, Asks, Earlier}
 use Rattle.listing.specs.declared.row.LinkRow.{LinkRow}
 use Rattle.listing.proofs.Members.{members}
 use Rattle.listing.proofs.Orders.{rising}
@@ -23,7 +23,7 @@ use Rattle.history.proofs.Options.{none_applies}
 use Rattle.history.proofs.Standing.{link_at, Fits, triple_known, same_words, same_link}
 
 -- rows in rising order are without repeats
-pub rising_apart : (rs : List LinkRow) → RowsRise rs → Apart rs
+pub rising_apart : (rs : List LinkRow) → Rises Earlier rs → Apart rs
 rising_apart [] h = tt
 rising_apart (r ∷ rs) h = (λ i. ⊎_elim (λ k. omega arith) (λ k. omega (arith, k.1)) (h.0 r i), rising_apart rs h.1)
 

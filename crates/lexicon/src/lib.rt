@@ -60,7 +60,8 @@ pub trait GrowingList: ReadableList {
     // word without room; unless a new word is entered, the list stays as it was.
     fn enter(&mut self, word: &[u8]) -> Result<u16, ListFault>
         ensures answer { result ≡ enter_answer (Self.roll self.old) (room self.old word.now) word.now }
-        ensures after { EnterChanges Self.roll room enters self.old word.now self.new };
+        ensures after { EnterChanges Self.roll room enters self.old word.now self.new }
+        ensures lawful { Lawful (Self.roll self.new) };
 }
 
 // The spelling has 1 to 128 labels.

@@ -45,8 +45,3 @@ pub record ListsExactly (t : LinkTable) (x q : ℕ) (rows : List LinkRow) : Type
 -- lower
 abbrev pub Earlier : LinkRow → LinkRow → Type 0
 Earlier r s = (r.relation < s.relation) ⊎ ((r.relation ≡ s.relation) × (r.y < s.y))
-
--- each row comes before all that follow it
-abbrev pub RowsRise : List LinkRow → Type 0
-RowsRise [] = Unit {0}
-RowsRise (r ∷ rs) = ((s : LinkRow) → In rs s → Earlier r s) × RowsRise rs

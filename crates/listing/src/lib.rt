@@ -9,8 +9,9 @@ mod beginning;
 mod row;
 mod writing;
 
+ghost use Rattle.members.specs.Lists.{Rises};
 ghost use Rattle.output.specs.Written.{Filled};
-ghost use Rattle.listing.specs.Rows.{rows_of, ListsExactly, RowsRise};
+ghost use Rattle.listing.specs.Rows.{rows_of, ListsExactly, Earlier};
 
 use link_table::LinkTable;
 pub use row::LinkRow;
@@ -24,7 +25,7 @@ pub use writing::list_upper;
 pub fn list_links(table: &LinkTable, x: u16, relation: u8, out: &mut [LinkRow]) -> Option<usize>
     ensures output { Filled (rows_of table.now x relation) out.old result out.new }
     ensures members { ListsExactly table.now x relation (rows_of table.now x relation) }
-    ensures order { RowsRise (rows_of table.now x relation) }
+    ensures order { Rises Earlier (rows_of table.now x relation) }
 {
     let links = WordLinks { table, x };
     let count = links.list_rows(relation, &mut []);

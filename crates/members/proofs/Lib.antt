@@ -1,3 +1,4 @@
 pub mod Members
 pub mod Pigeons
 pub mod Filters
+pub mod Orders

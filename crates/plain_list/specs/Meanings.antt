@@ -1,6 +1,7 @@
 -- What the plain list means, as docs/WORD_LISTS.md has it: its roll, for which words it has room, and what
 -- an entry leaves.
 use Rattle.std.specs.Prelude.{◌≡◌, ℕ, List, length, ◌↔◌}
+use Rattle.lexicon.specs.Rolls.{Lawful}
 use Rattle.plain_list.specs.Plain.{roll_of, bytes_in, room_of, Appended}
 use Rattle.plain_list.specs.contracts.calls.PlainListReadableList.TheImpl.{ghosts as readable}
 use Rattle.plain_list.specs.contracts.calls.PlainListGrowingList.TheImpl.{ghosts as growing}
@@ -10,6 +11,8 @@ use Rattle.plain_list.specs.declared.list.PlainList.{PlainList}
 pub record MeaningOfPlainList : Type 0 where
   -- the roll is cut from the bytes by the lengths
   pub roll : (s : PlainList) → readable.roll s ≡ roll_of s
+  -- which is lawful
+  pub lawful : (s : PlainList) → Lawful (roll_of s)
   -- there is room exactly if a length is left, and bytes for the word
   pub room : (s : PlainList) (word : List ℕ) → growing.room s word ≡ room_of s word
   -- after an entry the word stands behind those of the roll, and nothing else has changed

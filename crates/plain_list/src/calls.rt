@@ -112,7 +112,7 @@ impl GrowingList for PlainList {
 
     ghost enters = { Appended };
 
-    #[tactic(auto, using(crate::proofs::Lists::entered))]
+    #[tactic(auto, using(crate::proofs::Lists::entered, crate::proofs::Lists::roll_lawful))]
     fn enter(&mut self, word: &[u8]) -> Result<u16, ListFault> {
         if !has_label_size(word) {
             return Err(ListFault::WordLength);

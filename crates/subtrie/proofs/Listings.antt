@@ -17,7 +17,8 @@ use Rattle.subtrie.specs.Below.{at_found, numbers_below, numbers_from}
 use Rattle.subtrie.specs.Order.{Before}
 use Rattle.subtrie.specs.Laws.{ListsBelow, NumbersBelow, Ordered}
 use Rattle.members.proofs.Members.{in_map, map_in, map_through}
-use Rattle.subtrie.proofs.Orders.{before_front, before_self, rising_map, rising_at}
+use Rattle.members.proofs.Orders.{rises_map}
+use Rattle.subtrie.proofs.Orders.{before_front, before_self, rising_at}
 use Rattle.subtrie.proofs.Paths.{number_on, below}
 
 -- codes
@@ -90,7 +91,7 @@ module _ (cs : List Cell) (is : List ℕ) (sound : Sound cs is) (p : List ℕ) w
       record {
         paths = map front b.paths;
         numbers = map_through front (number_at cs) (number_on cs s) b.paths (λ r i. number_split cs p r s e (b.codes r i)) ∙ b.numbers;
-        rising = rising_map front (before_front p) b.paths b.rising;
+        rising = rises_map Before Before front (before_front p) b.paths b.rising;
         begin = λ q i. let m = map_in front b.paths q i in (m.0, m.2);
         whole = λ r u held.
             let h = held_on r u held in

@@ -5,14 +5,14 @@ use Rattle.std.proofs.lemmas.List.{map-append}
 use Rattle.std.proofs.lemmas.Bool.{cases_eq, cond-false, and_left}
 use Rattle.cells.specs.declared.Cell.{Cell}
 use Rattle.cells.specs.Cells.{at, nat, number, edge, child}
-use Rattle.members.specs.Lists.{In}
+use Rattle.members.specs.Lists.{In, Rises}
 use Rattle.cells.specs.Walking.{onward, walk}
 use Rattle.cells.proofs.Basics.{no_some}
 use Rattle.cells.proofs.Walks.{Codes}
 use Rattle.subtrie.specs.Below.{at_found, leaf_or, edge_numbers, numbers_below}
-use Rattle.subtrie.specs.Order.{Before, PathsRise}
+use Rattle.subtrie.specs.Order.{Before}
 use Rattle.members.proofs.Members.{in_append, in_front, in_rest, in_map, map_in, map_through}
-use Rattle.subtrie.proofs.Orders.{rising_append, rising_map}
+use Rattle.members.proofs.Orders.{rises_append, rises_map}
 
 -- the number of the leaf that the codes lead to from s
 abbrev pub number_on : List Cell → ℕ → List ℕ → Option ℕ
@@ -22,7 +22,7 @@ number_on cs s p = onward (walk cs s p) (λ t. number (at cs t).base)
 pub record Onward (cs : List Cell) (s left : ℕ) (ns : List ℕ) : Type 0 where
   pub paths : List (List ℕ)
   pub numbers : map (number_on cs s) paths ≡ map Some ns
-  pub rising : PathsRise paths
+  pub rising : Rises Before paths
   pub codes : (q : List ℕ) → In paths q → Codes q
   pub whole : (q : List ℕ) (u : ℕ) → Codes q → length q ≤ left → number_on cs s q ≡ Some u → In paths q
 
@@ -30,7 +30,7 @@ pub record Onward (cs : List Cell) (s left : ℕ) (ns : List ℕ) : Type 0 where
 pub record Along (cs : List Cell) (s k left : ℕ) (ns : List ℕ) : Type 0 where
   pub paths : List (List ℕ)
   pub numbers : map (number_on cs s) paths ≡ map Some ns
-  pub rising : PathsRise paths
+  pub rising : Rises Before paths
   pub codes : (q : List ℕ) → In paths q → Codes q
   pub first : (q : List ℕ) → In paths q → (a : ℕ) × (r : List ℕ) × (258 ≤ a + k) × (q ≡ a ∷ r)
   pub whole : (a : ℕ) (r : List ℕ) (u : ℕ) → 258 ≤ a + k → Codes (a ∷ r) → length r ≤ left → number_on cs s (a ∷ r) ≡ Some u → In paths (a ∷ r)
@@ -73,7 +73,7 @@ module _ (cs : List Cell) (left : ℕ) (kids : (t : ℕ) → Onward cs t left (n
               ∙ ap (λ l. l ++ map (number_on cs s) rest.paths) (map_through ahead (number_on cs s) (number_on cs t) kid.paths (λ p i. follow cs s a p (Some t) e) ∙ kid.numbers)
               ∙ ap (λ l. map Some (numbers_below left cs t) ++ l) rest.numbers
               ∙ sym (map-append Some (numbers_below left cs t) ns);
-          rising = rising_append (map ahead kid.paths) rest.paths (rising_map ahead (λ p q h. inr (refl, h)) kid.paths kid.rising) rest.rising
+          rising = rises_append Before (map ahead kid.paths) rest.paths (rises_map Before Before ahead (λ p q h. inr (refl, h)) kid.paths kid.rising) rest.rising
               (λ p q i j.
               let m = map_in ahead kid.paths p i in
               let f = rest.first q j in

@@ -2,14 +2,14 @@
 use Rattle.std.specs.Prelude.{◌≡◌, ℕ, ◌<◌, ◌≤◌, List, ◌++◌, map, length, Some, ◌≢◌, slice_index}
 use Rattle.cells.specs.declared.Cell.{Cell}
 use Rattle.cells.specs.Walking.{number_at}
-use Rattle.members.specs.Lists.{In}
-use Rattle.subtrie.specs.Order.{Before, PathsRise}
+use Rattle.members.specs.Lists.{In, Rises}
+use Rattle.subtrie.specs.Order.{Before}
 
 -- ns are the numbers of the held paths that begin with p, each path once and in the order of the paths
 pub record ListsBelow (cs : List Cell) (p ns : List ℕ) : Type 0 where
   pub paths : List (List ℕ)
   pub numbers : map (number_at cs) paths ≡ map Some ns
-  pub rising : PathsRise paths
+  pub rising : Rises Before paths
   pub begin : (q : List ℕ) → In paths q → (r : List ℕ) × (q ≡ p ++ r)
   pub whole : (r : List ℕ) (u : ℕ) → number_at cs (p ++ r) ≡ Some u → In paths (p ++ r)
 

@@ -1,6 +1,5 @@
 -- The order of paths.
 use Rattle.std.specs.Prelude.{◌≡◌, ℕ, ◌<◌, ◌⊎◌, List, [], ◌∷◌}
-use Rattle.members.specs.Lists.{In}
 
 -- p comes before q: at the first place where they differ p has the lower code, or p is a beginning of q
 abbrev pub Before : List ℕ → List ℕ → Type 0
@@ -8,8 +7,3 @@ Before [] [] = ⊥
 Before [] (b ∷ q) = Unit {0}
 Before (a ∷ p) [] = ⊥
 Before (a ∷ p) (b ∷ q) = (a < b) ⊎ ((a ≡ b) × Before p q)
-
--- each path comes before all that follow it
-abbrev pub PathsRise : List (List ℕ) → Type 0
-PathsRise [] = Unit {0}
-PathsRise (p ∷ ps) = ((q : List ℕ) → In ps q → Before p q) × PathsRise ps

@@ -138,7 +138,7 @@ impl GrowingList for TrieList {
 
     ghost enters = { ArraysEntered };
 
-    #[tactic(auto, using(crate::proofs::Lists::told))]
+    #[tactic(auto, using(crate::proofs::Lists::told, crate::proofs::Lists::roll_lawful))]
     fn enter(&mut self, word: &[u8]) -> Result<u16, ListFault> {
         if !has_label_size(word) {
             return Err(ListFault::WordLength);

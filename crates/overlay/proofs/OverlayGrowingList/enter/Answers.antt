@@ -59,3 +59,6 @@ returns-clause-after g c =
     (λ (s : g.row.L.Denot × g.row.U.Denot) (w : List ℕ) (t : g.row.L.Denot × g.row.U.Denot). g.U.GrowingList.enters s.1 w t.1 × (t.0 ≡ s.0))
     (c.self.inside.lower, c.self.inside.upper) c.args.word.now (c.self.inside.lower, c.enter.new.self) _
     (new_is (lower g at ++ upper g at) _ c.args.word.now all.sized all.absent (free g at)) (all.arrays, refl) all.grown all.lawful)
+
+pub returns-clause-lawful : goal.returns-clause-lawful
+returns-clause-lawful g c = (taken g (goal.at.returns-clause-lawful g c).In_ok-number-2).lawful
