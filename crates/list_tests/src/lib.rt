@@ -7,6 +7,8 @@ mod both;
 #[cfg(test)]
 mod lists;
 #[cfg(test)]
+mod overlays;
+#[cfg(test)]
 mod scripts;
 #[cfg(test)]
 mod tries;

@@ -6,9 +6,6 @@
 // The rules stand in docs/WORD_LISTS.md, "A list above another".
 #![tactic(auto)]
 
-#[cfg(test)]
-mod tests;
-
 ghost use Rattle.std.specs.Prelude.{◌≡◌, ℕ, ◌+◌, ◌≤◌, ◌++◌, List, [], cond, length, Some, None, ◌&&◌, ◌==◌, nat_lt};
 ghost use Rattle.lexicon.specs.Rolls.{Lawful};
 ghost use Rattle.overlay.specs.Over.{RollOver, RoomOver, EntersOver};

@@ -1,10 +1,12 @@
-// Tests of the store's calls: refusals in their order, and stores at their limits.
+// Tests of the store's calls: refusals in their order, and stores and records at their limits.
 #![tactic(auto)]
 
 #[cfg(test)]
 mod limits;
 #[cfg(test)]
 mod making;
+#[cfg(test)]
+mod records;
 #[cfg(test)]
 mod refusals;
 #[cfg(test)]

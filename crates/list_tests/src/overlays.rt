@@ -1,6 +1,6 @@
 // A plain list above a plain list.
-use super::Overlay;
 use lexicon::{GrowingList, ListFault, ReadableList};
+use overlay::Overlay;
 use plain_list::PlainList;
 use std::test::Fail;
 

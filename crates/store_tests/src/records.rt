@@ -1,5 +1,5 @@
 // Records at their limits.
-use super::{Record, Score, Tally};
+use record::{Record, Score, Tally};
 
 #[test]
 fn tallies_at_their_limits(rt: HostRuntime) {
