@@ -1,5 +1,5 @@
 -- What holds of the cells and the index between operations. All of it is one proposition, which the struct that owns
--- them carries. That an array of fewer than two cells has none in use follows from Reachable; `Short` of Laws names it.
+-- them carries. That an array of fewer than two cells has none in use follows from Reachable; `ShortArrays` names it.
 use Rattle.std.specs.Prelude.{◌≡◌, ℕ, ◌<◌, true, ◌||◌, List, [], length, pos, ◌≢◌}
 use Rattle.cells.specs.declared.Cell.{Cell}
 use Rattle.cells.specs.Cells.{free_cell, at, parent, is_leaf, child_codes, some_code}
