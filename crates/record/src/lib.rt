@@ -9,8 +9,6 @@ ghost use Rattle.std.specs.Float.Ieee.{le};
 ghost use Rattle.record.specs.Soundness.{sound_tally, sound_score, NanUnsound};
 
 mod meanings;
-#[cfg(test)]
-mod tests;
 
 pub use meanings::meaning;
 
