@@ -5,9 +5,10 @@
 // The rules stand in docs/LINES.md.
 #![tactic(auto)]
 
-ghost use Rattle.std.specs.Prelude.{◌≡◌, ◌+◌, ◌*◌, ◌≤◌, ◌++◌, length, if◌then◌else◌, Some, None, nat_le};
+ghost use Rattle.std.specs.Prelude.{◌≡◌, ◌+◌, ◌*◌, ◌≤◌, [], ◌++◌, length, if◌then◌else◌, Some, None, nat_le};
 ghost use Rattle.std.specs.List.{flat_map};
-ghost use Rattle.line_text.specs.Texts.{number_text, three_text, row_text, rows_text, report_line, done_text, answer_text, with_text};
+ghost use Rattle.output.specs.Written.{written};
+ghost use Rattle.line_text.specs.Texts.{number_text, three_text, row_text, report_line, done_line, last_line, listed_rows, answer_text, with_text};
 
 use arrayvec::ArrayVec;
 use itoa::Buffer;
@@ -23,9 +24,13 @@ pub use rows::{LineRow, LineRows, ROW_PLACES};
 // The least bytes that an output has.
 pub const TEXT_BYTES: usize = 4096;
 
-// A text as it is put together. That is done by functions that cannot fail and not by `Display`: its
-// contract does not say that it succeeds, and `write_answer` promises a text for every answer.
-type Text = ArrayVec<u8, TEXT_BYTES>;
+// The most bytes that a line of a text has: `no` and a tab, and three numbers with a byte after each.
+const LINE_BYTES: usize = 36;
+
+// A line of a text as it is put together. That is done by functions that cannot fail and not by `Display`: its
+// contract does not say that it succeeds, and `write_answer` promises a text for every answer. It has the places
+// of a line and not of a whole text, since a new vector of fixed capacity is blanked first, place by place.
+type Text = ArrayVec<u8, LINE_BYTES>;
 
 // What a command answers.
 #[derive(Clone, Copy)]
@@ -42,7 +47,7 @@ pub enum LineAnswer {
 
 // Puts a text after what is there.
 fn put_text(text: &mut Text, more: &[u8])
-    requires { length text.old.items + length more.now ≤ 4096 }
+    requires { length text.old.items + length more.now ≤ 36 }
     ensures { text.new.items ≡ text.old.items ++ more.now }
 {
     text.try_extend_from_slice(more).unwrap();
@@ -50,7 +55,7 @@ fn put_text(text: &mut Text, more: &[u8])
 
 // Puts a number and the byte that ends it: at most 11 bytes.
 fn put_field(text: &mut Text, n: u32, end: u8)
-    requires { length text.old.items + 11 ≤ 4096 }
+    requires { length text.old.items + 11 ≤ 36 }
     ensures wrote { text.new.items ≡ text.old.items ++ number_text n end }
     ensures short { length text.new.items ≤ length text.old.items + 11 }
 {
@@ -61,7 +66,7 @@ fn put_field(text: &mut Text, n: u32, end: u8)
 
 // Puts three numbers as a line: at most 33 bytes.
 fn put_three(text: &mut Text, a: u32, b: u32, c: u32)
-    requires { length text.old.items + 33 ≤ 4096 }
+    requires { length text.old.items + 33 ≤ 36 }
     ensures wrote { text.new.items ≡ text.old.items ++ three_text a b c }
     ensures short { length text.new.items ≤ length text.old.items + 33 }
 {
@@ -70,32 +75,10 @@ fn put_three(text: &mut Text, a: u32, b: u32, c: u32)
     put_field(text, c, b'\n');
 }
 
-// Puts a line for each row.
-fn put_rows(text: &mut Text, rows: &[LineRow])
-    requires { length text.old.items + 33 * length rows.now ≤ 4096 }
-    ensures wrote { text.new.items ≡ text.old.items ++ flat_map row_text rows.now }
-    ensures short { length text.new.items ≤ length text.old.items + 33 * length rows.now }
-{
-    for row in rows {
-        put_three(text, row.relation as u32, row.y as u32, row.count);
-    }
-}
-
-// Puts a listing: its rows, and how many there are.
-fn put_listing(text: &mut Text, rows: &[LineRow])
-    requires room { length text.old.items ≤ 700 }
-    requires few { length rows.now ≤ 100 }
-    ensures { text.new.items ≡ text.old.items ++ rows_text rows.now }
-{
-    put_rows(text, rows);
-    put_text(text, b"end\t");
-    put_field(text, rows.len() as u32, b'\n');
-}
-
 // Puts a refusal: its number, its layer and its side.
 fn put_report(text: &mut Text, report: Report)
-    requires { length text.old.items ≤ 4000 }
-    ensures { text.new.items ≡ text.old.items ++ report_line report }
+    requires { text.old.items ≡ [] }
+    ensures { text.new.items ≡ report_line report }
 {
     put_text(text, b"no\t");
     put_three(
@@ -106,30 +89,69 @@ fn put_report(text: &mut Text, report: Report)
     );
 }
 
-// Puts what a command answers.
-fn put_answer(text: &mut Text, answer: LineAnswer)
-    requires { length text.old.items ≤ 700 }
-    ensures { text.new.items ≡ text.old.items ++ done_text answer }
+// Puts the last line of what a command answers: of a listing, how many rows there are.
+fn put_answer(text: &mut Text, answer: &LineAnswer)
+    requires { text.old.items ≡ [] }
+    ensures { text.new.items ≡ done_line answer.now }
 {
-    match answer {
+    match *answer {
         LineAnswer::Done => put_text(text, b"ok\n"),
         LineAnswer::Found { x, y, count } => put_three(text, x as u32, y as u32, count),
         LineAnswer::Absent => put_text(text, b"none\n"),
-        LineAnswer::Listing(rows) => put_listing(text, rows.as_slice()),
+        LineAnswer::Listing(rows) => {
+            put_text(text, b"end\t");
+            put_field(text, rows.as_slice().len() as u32, b'\n');
+        }
         LineAnswer::Share(share) => put_field(text, share, b'\n'),
     }
 }
 
-// What is printed of an answer.
-fn text_of(answer: &Result<LineAnswer, Refusal>) -> Text
-    ensures { result.items ≡ answer_text answer.now }
+// The last line of what is printed of an answer.
+fn last_line(answer: &Result<LineAnswer, Refusal>) -> Text
+    ensures line { result.items ≡ last_line answer.now }
 {
     let mut text = Text::new();
-    match *answer {
+    match answer {
         Ok(done) => put_answer(&mut text, done),
         Err(refusal) => put_report(&mut text, refusal.report()),
     }
     text
+}
+
+// The rows that are printed of an answer: none but of a listing.
+fn listed_rows(answer: &Result<LineAnswer, Refusal>) -> &[LineRow]
+    ensures rows { result.now ≡ listed_rows answer.now }
+    ensures few { length result.now ≤ 100 }
+{
+    match answer {
+        Ok(LineAnswer::Listing(rows)) => rows.as_slice(),
+        _ => &[],
+    }
+}
+
+// Writes a line from a place on, and answers where it ends.
+fn write_line(out: &mut [u8], at: usize, line: &[u8]) -> usize
+    requires { at + length line.now ≤ length out.old }
+    ensures end { result ≡ at + length line.now }
+    ensures after { out.new ≡ written out.old at line.now }
+{
+    output::write_at(out, at, line).unwrap()
+}
+
+// Writes a line for each row from the start of the output on, and answers where they end.
+fn write_rows(out: &mut [u8], rows: &[LineRow]) -> usize
+    requires { 33 * length rows.now ≤ length out.old }
+    ensures end { result ≡ length (flat_map row_text rows.now) }
+    ensures after { out.new ≡ written out.old 0 (flat_map row_text rows.now) }
+    ensures short { result ≤ 33 * length rows.now }
+{
+    let mut at = 0;
+    for row in rows {
+        let mut text = Text::new();
+        put_three(&mut text, row.relation as u32, row.y as u32, row.count);
+        at = write_line(out, at, text.as_slice());
+    }
+    at
 }
 
 // Writes what is printed of an answer from the start of the output on, and answers how many bytes
@@ -141,6 +163,7 @@ pub fn write_answer(answer: &Result<LineAnswer, Refusal>, out: &mut [u8]) -> Opt
     if out.len() < TEXT_BYTES {
         return None;
     }
-    let text = text_of(answer);
-    output::write_at(out, 0, text.as_slice())
+    let at = write_rows(out, listed_rows(answer));
+    let text = last_line(answer);
+    Some(write_line(out, at, text.as_slice()))
 }

@@ -7,7 +7,6 @@ use Rattle.refusal.specs.declared.Refusal.TheVariants.{UnknownWord, TripleAbsent
 use Rattle.link_table.specs.declared.faults.LinkFault.{LinkFault}
 use Rattle.link_table.specs.declared.faults.LinkFault.TheVariants.{TriplePresent, NumbersHeld, NoPlace}
 use Rattle.refusal.specs.Reports.{link_refusal}
-use Rattle.lexicon.specs.Rolls.{number_of}
 use Rattle.link_table.specs.Tables.{found, all_held, has_place, put_refusal, Put, Out}
 use Rattle.link_table.specs.declared.table.LinkTable.{LinkTable}
 use Rattle.link_table.specs.declared.triple.Triple.{Triple}
@@ -15,8 +14,7 @@ use Rattle.history.specs.declared.replies.Link.{Link}
 use Rattle.history.specs.Kits.{Kit, state_of, number_in, triple_in}
 use Rattle.history.specs.Refusals.{first, none, word_refusals, unknown_refusals, put_refusals, link_refusals}
 use Rattle.history.specs.Calls.{Decided, LinkMade, held_in, links_in, refusal_of_tie, Ties, refusal_of_sought, Deletes, answered, link_by, link_in, find_of}
-use Rattle.store.specs.declared.labels.WordPair.{WordPair}
-use Rattle.store.specs.Words.{labels_in, IsSpelledPair, KnownTriple}
+use Rattle.store.specs.Words.{KnownTriple}
 use Rattle.store.specs.Links.{Joins, JoinsAt, link_answer}
 use Rattle.store.proofs.Decisions.{first_on, first_out, decided_err, decided_ok}
 
@@ -84,24 +82,16 @@ module _ {S L R : Type 0} (K : Kit S L R) (l : L) (t : LinkTable) (rs : List R) 
       link_made K l t t' rs rs' x y q r triple ex ey eq n (refusal_of_tie K l t x y q r)
       (first_on (put_refusals x y q (K.good r)) (unknowns ++ links_in K l t x y q) fit ∙ first_on unknowns (links_in K l t x y q) (known_none K l x y ex ey)) h
 
--- what is known of the labels of words is known of the words
-pub known_words : {S L R : Type 0} (K : Kit S L R) (l : L) (x y : List S) (q : ℕ) (p : WordPair) (n : Result Triple Refusal) → IsSpelledPair K.spelling x y p
-    → KnownTriple (number_of (K.roll l) (labels_in p.x)) (number_of (K.roll l) (labels_in p.y)) q n → KnownTriple (number_in K l x) (number_in K l y) q n
-known_words K l x y q p n holds k =
-    subst (λ (w : List ℕ). KnownTriple (number_in K l x) (number_of (K.roll l) w) q n) holds.1
-    (subst (λ (w : List ℕ). KnownTriple (number_of (K.roll l) w) (number_of (K.roll l) (labels_in p.y)) q n) holds.0 k)
-
 -- find, of words that the list has
-pub find_known : {S L R : Type 0} (K : Kit S L R) (l : L) (t : LinkTable) (x y : List S) (q : ℕ) (p : WordPair) → first (word_refusals x y q) ≡ None → IsSpelledPair K.spelling x y p
-    → (a b : ℕ) → Some a ≡ number_of (K.roll l) (labels_in p.x) → Some b ≡ number_of (K.roll l) (labels_in p.y)
+pub find_known : {S L R : Type 0} (K : Kit S L R) (l : L) (t : LinkTable) (x y : List S) (q : ℕ) → first (word_refusals x y q) ≡ None
+    → (a b : ℕ) → Some a ≡ number_in K l x → Some b ≡ number_in K l y
     → find_of K l t x y q ≡ Ok (link_by K (Some a) (Some b) (found t (record { x = a; relation = q; y = b })))
-find_known K l t x y q p fit holds a b ea eb =
+find_known K l t x y q fit a b ea eb =
     let triple : Triple = record { x = a; relation = q; y = b } in
-    let k = known_words K l x y q p (Ok triple) holds (sym ea, sym eb, refl) in
     ap (λ (o : Option Refusal). answered o (link_by K (number_in K l x) (number_in K l y) (found t (triple_in K l x y q)))) fit
-    ∙ ap (λ (o : Option ℕ). Ok (link_by K o (number_in K l y) (found t (triple_in K l x y q)))) k.0
-    ∙ ap (λ (o : Option ℕ). Ok (link_by K (Some a) o (found t (triple_in K l x y q)))) k.1
-    ∙ ap (λ (z : Triple). Ok (link_by K (Some a) (Some b) (found t z))) (same_triple_lem K l x y q triple k.0 k.1 refl)
+    ∙ ap (λ (o : Option ℕ). Ok (link_by K o (number_in K l y) (found t (triple_in K l x y q)))) (sym ea)
+    ∙ ap (λ (o : Option ℕ). Ok (link_by K (Some a) o (found t (triple_in K l x y q)))) (sym eb)
+    ∙ ap (λ (z : Triple). Ok (link_by K (Some a) (Some b) (found t z))) (same_triple_lem K l x y q triple (sym ea) (sym eb) refl)
 
 module _ {S L R : Type 0} (K : Kit S L R) (l : L) (t : LinkTable) (x y : List S) (q : ℕ) (fit : first (word_refusals x y q) ≡ None) where
   abbrev absent : List (Bool × Refusal)

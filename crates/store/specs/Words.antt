@@ -9,45 +9,30 @@ use Rattle.lexicon.specs.Answers.{EnterLeaves}
 use Rattle.link_table.specs.declared.triple.Triple.{Triple}
 use Rattle.lexicon.specs.Growths.{Growth}
 use Rattle.history.specs.Refusals.{first, none, word_refusals, unknown_refusals, put_refusals}
-use Rattle.store.specs.declared.labels.SpelledWord.{SpelledWord}
-use Rattle.store.specs.declared.labels.WordPair.{WordPair}
-
--- the labels that are held
-abbrev pub labels_in : SpelledWord → List ℕ
-labels_in w = w.labels.items
 
 -- a word on a side has the right length, or it is refused
 abbrev pub SizeTested : {S : Type 0} → List S → Side → Result (Unit {0}) Refusal → Type 0
 SizeTested word side (Ok _) = word_sized word ≡ true
 SizeTested word side (Err e) = (word_sized word ≡ false) × (e ≡ WordLength side)
 
--- a word on a side was spelled, or it has the wrong length
-abbrev pub Spelt : {S : Type 0} → (S → List ℕ) → List S → Side → Result SpelledWord Refusal → Type 0
-Spelt spelling word side (Ok w) = (word_sized word ≡ true) × (labels_in w ≡ spelled spelling word)
-Spelt spelling word side (Err e) = (word_sized word ≡ false) × (e ≡ WordLength side)
-
--- the pair holds the labels of both words
-abbrev pub IsSpelledPair : {S : Type 0} → (S → List ℕ) → List S → List S → WordPair → Type 0
-IsSpelledPair spelling x y p = (labels_in p.x ≡ spelled spelling x) × (labels_in p.y ≡ spelled spelling y)
-
--- both words were spelled and the relation is not 0, or the first refusal that applies
-abbrev pub PairSpelt : {S : Type 0} → (S → List ℕ) → List S → List S → ℕ → Result WordPair Refusal → Type 0
-PairSpelt spelling x y q (Ok p) = (first (word_refusals x y q) ≡ None) × IsSpelledPair spelling x y p
-PairSpelt spelling x y q (Err e) = first (word_refusals x y q) ≡ Some e
+-- both words have the right length and the relation is not 0, or the first refusal that applies
+abbrev pub WordsTested : {S : Type 0} → List S → List S → ℕ → Result (Unit {0}) Refusal → Type 0
+WordsTested x y q (Ok _) = first (word_refusals x y q) ≡ None
+WordsTested x y q (Err e) = first (word_refusals x y q) ≡ Some e
 
 -- the same with a record that is to be sound
-abbrev pub Admitted : {S : Type 0} → (S → List ℕ) → List S → List S → ℕ → Bool → Result WordPair Refusal → Type 0
-Admitted spelling x y q good (Ok p) = (first (put_refusals x y q good) ≡ None) × IsSpelledPair spelling x y p
-Admitted spelling x y q good (Err e) = first (put_refusals x y q good) ≡ Some e
+abbrev pub Admitted : {S : Type 0} → List S → List S → ℕ → Bool → Result (Unit {0}) Refusal → Type 0
+Admitted x y q good (Ok _) = first (put_refusals x y q good) ≡ None
+Admitted x y q good (Err e) = first (put_refusals x y q good) ≡ Some e
 
 -- the triple of two words that have the numbers a and b, or the first of them that has none
 abbrev pub KnownTriple : Option ℕ → Option ℕ → ℕ → Result Triple Refusal → Type 0
 KnownTriple a b q (Ok t) = (a ≡ Some t.x) × (b ≡ Some t.y) × (t.relation ≡ q)
 KnownTriple a b q (Err e) = first (unknown_refusals a b) ≡ Some e
 
--- the same of two spelled words, by a roll
-abbrev pub KnownPair : List (List ℕ) → WordPair → ℕ → Result Triple Refusal → Type 0
-KnownPair roll p q r = KnownTriple (number_of roll (labels_in p.x)) (number_of roll (labels_in p.y)) q r
+-- the same of two words of symbols, by a roll
+abbrev pub KnownWords : {S : Type 0} → List (List ℕ) → (S → List ℕ) → List S → List S → ℕ → Result Triple Refusal → Type 0
+KnownWords roll spelling x y q r = KnownTriple (number_of roll (spelled spelling x)) (number_of roll (spelled spelling y)) q r
 
 -- entering a word of the right length, whose number was a: it keeps its number, or becomes the last, or has no room
 abbrev pub entered_answer : Option ℕ → Bool → ℕ → Side → Result ℕ Refusal

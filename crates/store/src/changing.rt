@@ -9,7 +9,7 @@ ghost use Rattle.store.specs.Links.{word_kit, record_kit};
 
 use super::linking::write_record;
 use super::table::RelationTable;
-use super::words::{admit, enter, known_triple, spell_pair};
+use super::words::{admit, enter, known_triple, test_words};
 use history::Link;
 use lexicon::{GrowingList, ReadableList};
 use link_table::Triple;
@@ -33,9 +33,9 @@ impl RelationTable {
             (state_of list.old self.old records.old) words.entry.x.now words.entry.y.now
             words.entry.relation «record» result (state_of list.new self.new records.new) }
     {
-        let pair = admit(words, &record)?;
-        let x = enter(list, &pair.x, Side::First)?;
-        let y = enter(list, &pair.y, Side::Second)?;
+        admit(words, &record)?;
+        let x = enter(list, words.x, Side::First)?;
+        let y = enter(list, words.y, Side::Second)?;
         let relation = words.relation;
         self.join(records, Triple { x, relation, y }, record)
     }
@@ -54,8 +54,8 @@ impl RelationTable {
             words.entry.x.now words.entry.y.now words.entry.relation «record» result
             (state_of list.now self.new records.new) }
     {
-        let pair = admit(words, &record)?;
-        let triple = known_triple(list, &pair, words.relation)?;
+        admit(words, &record)?;
+        let triple = known_triple(list, words)?;
         self.join(records, triple, record)
     }
 
@@ -70,8 +70,8 @@ impl RelationTable {
         ensures { Deletes (word_kit S.Script L.ReadableList) list.now self.old words.entry.x.now words.entry.y.now
             words.entry.relation result self.new }
     {
-        let pair = spell_pair(words)?;
-        let triple = known_triple(list, &pair, words.relation)?;
+        test_words(words)?;
+        let triple = known_triple(list, words)?;
         let number = self.links.take(triple)?;
         Ok(number)
     }

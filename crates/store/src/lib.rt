@@ -8,7 +8,6 @@
 #![tactic(auto)]
 
 mod changing;
-mod labels;
 mod linking;
 mod making;
 mod reading;

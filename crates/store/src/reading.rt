@@ -5,7 +5,7 @@ ghost use Rattle.history.specs.Calls.{find_of, read_of, Lists, figures_of};
 ghost use Rattle.store.specs.Links.{word_kit, link_answer};
 
 use super::table::RelationTable;
-use super::words::{known_triple, number_in, spell, spell_pair};
+use super::words::{known_triple, number_in, test_size, test_words};
 use history::{Figures, Link, Reading};
 use lexicon::ReadableList;
 use link_table::Triple;
@@ -34,12 +34,12 @@ impl RelationTable {
         ensures { result ≡ find_of (word_kit S.Script L.ReadableList) list.now self.now words.entry.x.now
             words.entry.y.now words.entry.relation }
     {
-        let pair = spell_pair(words)?;
+        test_words(words)?;
         // By `let else`, here and below: none is the answer then and no refusal, which `?` cannot say.
-        let Some(x) = number_in(list, &pair.x) else {
+        let Some(x) = number_in(list, words.x) else {
             return Ok(None);
         };
-        let Some(y) = number_in(list, &pair.y) else {
+        let Some(y) = number_in(list, words.y) else {
             return Ok(None);
         };
         let relation = words.relation;
@@ -58,8 +58,8 @@ impl RelationTable {
         ensures { result ≡ link_answer (word_kit S.Script L.ReadableList) list.now self.now words.entry.x.now
             words.entry.y.now words.entry.relation }
     {
-        let pair = spell_pair(words)?;
-        let triple = known_triple(list, &pair, words.relation)?;
+        test_words(words)?;
+        let triple = known_triple(list, words)?;
         let number = self.links.link_number(triple).ok_or(Refusal::TripleAbsent)?;
         Ok(Link {
             x: triple.x,
@@ -90,8 +90,8 @@ impl RelationTable {
     ) -> Result<usize, Refusal>
         ensures { Lists (word_kit S.Script L.ReadableList) list.now self.now x.now relation out.old result out.new }
     {
-        let word = spell(x, Side::First)?;
-        let number = number_in(list, &word).ok_or(Refusal::UnknownWord(Side::First))?;
+        test_size(x, Side::First)?;
+        let number = number_in(list, x).ok_or(Refusal::UnknownWord(Side::First))?;
         list_links(&self.links, number, relation, out).ok_or(Refusal::OutputTooShort)
     }
 

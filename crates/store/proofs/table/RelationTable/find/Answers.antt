@@ -11,6 +11,6 @@ pub returns : goal.returns
 returns g c =
     rw (← c.self.view_is)
     (let K = word_kit g.S.Script g.L.ReadableList in
-    let m = c.in_ok-pair.ensures in
+    let m = c.in_ok-test_words.ensures in
     let mapped : ◌≡◌ {A = Result (Option Link) Refusal} (Ok c.map.result) (Ok (link_by K (Some c.in-Some.x) (Some c.in-Some-number_in.y) (found c.self.inside.links (record { x = c.in-Some.x; relation = c.args.words.relation; y = c.in-Some-number_in.y })))) = search rules in
-    mapped ∙ sym (find_known K c.args.list.now c.self.inside.links c.args.words.x.now c.args.words.y.now c.args.words.relation c.in_ok-pair.pair m.0 m.1 c.in-Some.x c.in-Some-number_in.y c.in-Some.ensures c.in-Some-number_in.ensures))
+    mapped ∙ sym (find_known K c.args.list.now c.self.inside.links c.args.words.x.now c.args.words.y.now c.args.words.relation m c.in-Some.x c.in-Some-number_in.y c.in-Some.ensures c.in-Some-number_in.ensures))
