@@ -16,6 +16,34 @@ fn cell_number(value: i32) -> usize
     value.max(0) as usize
 }
 
+// The child of `s` by the code, in any cells: none where there is no cell `s`.
+#[inline]
+pub fn child(cells: &[Cell], s: usize, code: u16) -> Option<usize>
+    ensures child { result ≡ child_of cells.now s code }
+    ensures within { IfSome result (λ t. t < length cells.now) }
+{
+    let base = cells.get(s)?.base;
+    if base <= 0 {
+        return None;
+    }
+    let t = base as usize + code as usize;
+    let check = cells.get(t)?.check;
+    (i64::from(check) == s as i64).then_some(t)
+}
+
+// The cell that the path leads to from the root.
+pub(super) fn walk(cells: &[Cell], path: &[u16]) -> Option<usize>
+    requires { 1 < length cells.now }
+    ensures cell { result ≡ walk_from cells.now 1 path.now }
+    ensures within { IfSome result (λ t. t < length cells.now) }
+{
+    let mut s = 1;
+    for code in path {
+        s = child(cells, s, *code)?;
+    }
+    Some(s)
+}
+
 impl Nodes {
     // Whether the cell `t` exists and is free.
     pub(super) fn is_free(&self, t: usize) -> bool
@@ -54,13 +82,7 @@ impl Nodes {
         ensures child { result ≡ child_of self.now.cells.items s code }
         ensures within { IfSome result (λ t. t < length self.now.cells.items) }
     {
-        let base = self.cells.get(s)?.base;
-        if base <= 0 {
-            return None;
-        }
-        let t = base as usize + code as usize;
-        let check = self.cells.get(t)?.check;
-        (check == s as i32).then_some(t)
+        child(&self.cells, s, code)
     }
 
     // The codes by which `s` has a child, in rising order.
@@ -75,19 +97,6 @@ impl Nodes {
             }
         }
         codes
-    }
-
-    // The cell that the path leads to from the root.
-    pub(super) fn walk(&self, path: &[u16]) -> Option<usize>
-        requires { 1 < length self.now.cells.items }
-        ensures cell { result ≡ walk_from self.now.cells.items 1 path.now }
-        ensures within { IfSome result (λ t. t < length self.now.cells.items) }
-    {
-        let mut s = 1;
-        for code in path {
-            s = self.child(s, *code)?;
-        }
-        Some(s)
     }
 
     // Whether `s` has a child.

@@ -6,8 +6,10 @@ ghost use Rattle.cells.specs.Counting.{in_use};
 ghost use Rattle.double_array.specs.Outcomes.{Upward};
 ghost use Rattle.double_array.specs.Spellings.{leaf_in, cell_from_root, Pointed, Written};
 
+use super::edges::walk;
 use super::faults::NumberFault;
 use super::nodes::Nodes;
+use cells::Cell;
 
 // Whether it is the code of the end sign, 1, or of a label, 2 to 257.
 fn is_code(code: u16) -> bool
@@ -44,17 +46,35 @@ pub fn label_of(code: u16) -> Option<u8>
     u8::try_from(code.checked_sub(2)?).ok()
 }
 
+// The cell that the path leads to from the root, in any cells: none where there is no root.
+pub fn cell_at(cells: &[Cell], path: &[u16]) -> Option<usize>
+    ensures cell { result ≡ cell_from_root cells.now path.now }
+    ensures within { IfSome result (λ t. t < length cells.now) }
+{
+    if cells.len() > 1 && all_codes(path) {
+        walk(cells, path)
+    } else {
+        None
+    }
+}
+
+// How many of the cells are in use. A sum, since `filter` and `count` take twice the time.
+pub(super) fn in_use(cells: &[Cell]) -> usize
+    ensures { result ≡ in_use cells.now }
+{
+    match cells {
+        [_, rest @ ..] => rest.iter().map(|cell| usize::from(cell.check > 0)).sum(),
+        [] => 0,
+    }
+}
+
 impl Nodes {
     // The cell that the path leads to from the root: none where there is no root.
     pub(super) fn cell_at(&self, path: &[u16]) -> Option<usize>
         ensures cell { result ≡ cell_from_root self.now.cells.items path.now }
         ensures within { IfSome result (λ t. t < length self.now.cells.items) }
     {
-        if self.cells.len() > 1 && all_codes(path) {
-            self.walk(path)
-        } else {
-            None
-        }
+        cell_at(&self.cells, path)
     }
 
     // The number of the leaf that the path leads to.
@@ -127,10 +147,6 @@ impl Nodes {
     pub(super) fn in_use(&self) -> usize
         ensures { result ≡ in_use self.now.cells.items }
     {
-        self.cells
-            .iter()
-            .skip(1)
-            .filter(|cell| cell.check > 0)
-            .count()
+        in_use(&self.cells)
     }
 }
