@@ -1,14 +1,10 @@
 -- Laws of the paths of words.
-use Rattle.std.specs.Prelude.{◌≡◌, ℕ, zero, suc, ◌+◌, ◌-◌, ◌<◌, ◌≤◌, true, false, ◌&&◌, List, [], ◌∷◌, ◌++◌, length, take, Some, None, Option, ◌≢◌, nat_le, nat_lt, slice_index, refl}
-use Rattle.std.specs.List.{filter_map, cons_option}
-use Rattle.std.proofs.Common.{sym, ap, ◌∙◌, arith, length-take-le}
-use Rattle.std.proofs.lemmas.List.{take_more}
-use Rattle.std.proofs.lemmas.List.Elements.{filter_map-append}
-use Rattle.std.proofs.lemmas.Bool.{and_parts, and_from, leb-true, le-leb, ltb-true, lt-ltb, eqb-true, both_ways}
+use Rattle.std.specs.Prelude.{◌≡◌, ℕ, zero, suc, ◌+◌, ◌-◌, ◌<◌, ◌≤◌, true, false, ◌&&◌, List, [], ◌∷◌, ◌++◌, length, ◌≢◌, nat_le, nat_lt, slice_index, refl}
+use Rattle.std.proofs.Common.{sym, ap, ◌∙◌, arith}
+use Rattle.std.proofs.lemmas.Bool.{and_parts, and_from, leb-true, le-leb, lt-ltb, eqb-true, both_ways}
 use Rattle.lexicon.specs.Rolls.{label_sized}
 use Rattle.lexicon.proofs.Numbers.{label_bounds}
-use Rattle.cells.specs.Cells.{is_code, all_codes, label_of}
-use Rattle.cells.proofs.Labels.{label_is, label_at}
+use Rattle.cells.specs.Cells.{is_code, all_codes}
 use Rattle.trie_list.specs.Paths.{path_of_word, labels_on, ends_once, word_path}
 
 -- a path that begins with a code and is not at its end
@@ -63,13 +59,19 @@ ends_alone (c ∷ []) a q e f =
 ends_alone (c ∷ d ∷ p) a q e f =
     ends_alone (d ∷ p) a q (and_parts (nat_le 2 c) (ends_once (d ∷ p)) e).1 (and_parts (nat_le 2 c) (ends_once ((d ∷ p) ++ a ∷ q)) f).1
 
--- a code of a label is not the last
-pub label_before : (p : List ℕ) (k b : ℕ) → ends_once p ≡ true → k < length p → label_of (slice_index p k) ≡ Some b → k + 1 < length p
-label_before [] k b e h is = absurd (omega arith)
-label_before (a ∷ []) zero b e h is = absurd (omega (arith, (label_is a b is).0, eqb-true a 1 e))
-label_before (a ∷ []) (suc k) b e h is = absurd (omega arith)
-label_before (a ∷ c ∷ p) zero b e h is = omega arith
-label_before (a ∷ c ∷ p) (suc k) b e h is = omega (arith, label_before (c ∷ p) k b (and_parts (nat_le 2 a) (ends_once (c ∷ p)) e).1 (omega arith) is)
+-- each code but the last is a label's
+pub label_low : (p : List ℕ) (k : ℕ) → ends_once p ≡ true → k + 1 < length p → 2 ≤ slice_index p k
+label_low [] k e h = absurd (omega arith)
+label_low (a ∷ []) k e h = absurd (omega arith)
+label_low (a ∷ b ∷ p) zero e h = leb-true 2 a (and_parts (nat_le 2 a) (ends_once (b ∷ p)) e).0
+label_low (a ∷ b ∷ p) (suc k) e h = label_low (b ∷ p) k (and_parts (nat_le 2 a) (ends_once (b ∷ p)) e).1 (omega arith)
+
+-- and is 2 more than the label
+pub label_read : (p : List ℕ) (k : ℕ) → k + 1 < length p → slice_index (labels_on p) k ≡ slice_index p k - 2
+label_read [] k h = absurd (omega arith)
+label_read (a ∷ []) k h = absurd (omega arith)
+label_read (a ∷ b ∷ p) zero h = refl
+label_read (a ∷ b ∷ p) (suc k) h = label_read (b ∷ p) k (omega arith)
 
 -- a path has one code more than labels
 pub length_labels : (p : List ℕ) → ends_once p ≡ true → length (labels_on p) + 1 ≡ length p
@@ -88,31 +90,3 @@ path_codes [] bytes = refl
 path_codes (b ∷ w) bytes =
     let low = bytes 0 in
     and_from (is_code (b + 2)) (all_codes (path_of_word w)) (and_from (nat_lt 0 (b + 2)) (nat_lt (b + 2) 258) (lt-ltb 0 (b + 2) (omega arith)) (lt-ltb (b + 2) 258 (omega arith))) (path_codes w (λ k. bytes (suc k)))
-
--- the labels of a path are those that its codes have
-pub labels_kept : (p : List ℕ) → ends_once p ≡ true → all_codes p ≡ true → filter_map label_of p ≡ labels_on p
-labels_kept [] e codes = absurd (both_ways false refl e)
-labels_kept (a ∷ []) e codes = ap (λ (k : ℕ). cons_option (label_of k) []) (eqb-true a 1 e)
-labels_kept (a ∷ b ∷ p) e codes =
-    let parts = and_parts (nat_le 2 a) (ends_once (b ∷ p)) e in
-    let rest = and_parts (is_code a) (all_codes (b ∷ p)) codes in
-    let high = ltb-true a 258 (and_parts (nat_lt 0 a) (nat_lt a 258) rest.0).1 in
-    ap (λ (o : Option ℕ). cons_option o (filter_map label_of (b ∷ p))) (label_at a (leb-true 2 a parts.0) high)
-    ∙ ap (λ (z : List ℕ). (a - 2) ∷ z) (labels_kept (b ∷ p) parts.1 rest.1)
-
--- those of one code more
-pub kept_more : (p : List ℕ) (k : ℕ) → k < length p
-    → filter_map label_of (take (k + 1) p) ≡ filter_map label_of (take k p) ++ cons_option (label_of (slice_index p k)) []
-kept_more p k h = ap (filter_map label_of) (take_more p k 0 h) ∙ filter_map-append label_of (take k p) (slice_index p k ∷ [])
-
--- they are no more than the codes
-cons_few : (o : Option ℕ) (labels : List ℕ) (n : ℕ) → length labels ≤ n → length (cons_option o labels) ≤ suc n
-cons_few None labels n h = omega arith
-cons_few (Some b) labels n h = omega arith
-
-kept_few : (p : List ℕ) → length (filter_map label_of p) ≤ length p
-kept_few [] = omega arith
-kept_few (a ∷ p) = cons_few (label_of a) (filter_map label_of p) (length p) (kept_few p)
-
-pub taken_few : (p : List ℕ) (k : ℕ) → k ≤ length p → length (filter_map label_of (take k p)) ≤ k
-taken_few p k h = omega (arith, kept_few (take k p), length-take-le k p h)

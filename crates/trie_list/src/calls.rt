@@ -1,14 +1,14 @@
 // The calls of a trie list.
 ghost use Rattle.std.specs.Prelude.{◌≡◌, ◌≤◌, true, length, IfOk, None, vec_len, OnOk};
 ghost use Rattle.lexicon.specs.Rolls.{label_sized, number_of, numbered, word_of};
+ghost use Rattle.output.specs.Written.{Filled};
 ghost use Rattle.double_array.specs.Views.{cells_of, index_of};
 ghost use Rattle.trie_list.specs.Below.{below_of, below_answer, below_output, WordsBelow};
 ghost use Rattle.trie_list.specs.Trie.{roll_of, room_of, IsNewTrieList, Walked, ArraysEntered, Appends};
 
 use super::faults::list_fault;
 use super::list::TrieList;
-use super::spelling::{codes_of, labels_on, path_of_word};
-use arrayvec::ArrayVec;
+use super::spelling::{codes_of, path_of_word, write_labels};
 use cells::Cell;
 use double_array::DoubleArray;
 use lexicon::{GrowingList, ListFault, MAX_WORDS, ReadableList, has_label_size, is_numbered};
@@ -67,6 +67,7 @@ impl TrieList {
     }
 
     // The number of the word, or none.
+    #[inline]
     fn number_of(&self, word: &[u8]) -> Option<u16>
         requires { length word.now ≤ 128 }
         ensures { result ≡ number_of (roll_of self.now) word.now }
@@ -77,17 +78,18 @@ impl TrieList {
             .map(|number| number as u16)
     }
 
-    // The labels of the word of a number.
-    fn word_of(&self, number: u16) -> ArrayVec<u8, 128>
+    // Writes the word of a number from the start of the output and answers how many labels it has, or
+    // writes nothing and answers none where the output is too short.
+    fn write_word(&self, number: u16, out: &mut [u8]) -> Option<usize>
         requires { numbered (roll_of self.now) number ≡ true }
-        ensures { result.items ≡ word_of (roll_of self.now) number }
+        ensures { Filled (word_of (roll_of self.now) number) out.old result out.new }
     {
         // A path is written into an output that is lent: a rule of the project.
         let mut path = [0u16; 129];
         let Ok(size) = self.array.path_of(number as u32, &mut path) else {
-            return ArrayVec::new();
+            return None;
         };
-        labels_on(&path[0..size])
+        write_labels(&path[0..size], out)
     }
 
     // Enters a word that the list lacks with the next number, and answers that number.
@@ -128,8 +130,8 @@ impl ReadableList for TrieList {
         if !is_numbered(self.count, number) {
             return Err(ListFault::UnknownWord);
         }
-        let labels = self.word_of(number);
-        output::write_at(out, 0, labels.as_slice()).ok_or(ListFault::OutputTooShort)
+        self.write_word(number, out)
+            .ok_or(ListFault::OutputTooShort)
     }
 }
 

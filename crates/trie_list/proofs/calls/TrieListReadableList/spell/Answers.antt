@@ -1,14 +1,15 @@
-use Rattle.std.proofs.Common.{◌≡◌, true, false, sym, ◌∙◌}
-use Rattle.std.proofs.lemmas.Bool.{cond-false}
-use Rattle.lexicon.specs.Rolls.{numbered}
+use Rattle.std.proofs.Common.{◌≡◌, ℕ, ◌≤◌, true, false, length, IfOk, Result, sym, ◌∙◌, subst}
+use Rattle.std.proofs.lemmas.Bool.{cond-true, cond-false}
+use Rattle.lexicon.specs.declared.ListFault.{ListFault}
+use Rattle.lexicon.specs.Rolls.{numbered, word_of}
 use Rattle.lexicon.proofs.Numbers.{numbered_by}
-use Rattle.lexicon.proofs.Spells.{write_at_answer, write_at_output, write_at_within}
 use Rattle.trie_list.specs.Trie.{roll_of}
+use Rattle.trie_list.proofs.Below.{told}
 use Rattle.trie_list.proofs.Lists.{length_roll}
 use Rattle.trie_list.proofs.calls.TrieListReadableList.spell.Goals as goal
 
-pub word_of-labels-requires : goal.word_of-labels-requires
-word_of-labels-requires c = let s = c.args.self.now in sym (numbered_by (roll_of s) c.args.number s.count (length_roll s)) ∙ sym c.if-not-is_numbered.ensures
+pub write_word-requires : goal.write_word-requires
+write_word-requires c = let s = c.args.self.now in sym (numbered_by (roll_of s) c.args.number s.count (length_roll s)) ∙ sym c.if-not-is_numbered.ensures
 
 pub returns-then-not-is_numbered : goal.returns-then-not-is_numbered
 returns-then-not-is_numbered c =
@@ -25,10 +26,9 @@ returns c =
     let s = c.args.self.now in
     let out = c.args.out.now in
     let some : numbered (roll_of s) c.args.number ≡ true = sym (numbered_by (roll_of s) c.args.number s.count (length_roll s)) ∙ sym c.if-not-is_numbered.ensures in
-    let word = c.as_slice.result.now in
-    let same = c.as_slice.ensures.value ∙ c.word_of-labels.ensures in
+    let all = told (word_of (roll_of s) c.args.number) out c.write_word.result c.write_word.new.out c.write_word.ensures in
     record {
-      answer = write_at_answer (roll_of s) c.args.number out word some same c.write_at.result c.ok_or.result c.write_at.ensures.end c.ok_or.ensures.value;
-      output = write_at_output (roll_of s) c.args.number out word some same c.write_at.new.out c.write_at.ensures.after;
-      within = write_at_within out word c.write_at.result c.ok_or.result c.write_at.ensures.end c.ok_or.ensures.value;
+      answer = c.ok_or.ensures.value ∙ all.answer ∙ sym (cond-true (numbered (roll_of s) c.args.number) _ _ some);
+      output = all.output ∙ sym (cond-true (numbered (roll_of s) c.args.number) _ _ some);
+      within = subst (λ (z : Result ℕ ListFault). IfOk z (λ n. n ≤ length out)) (sym c.ok_or.ensures.value) all.within;
     }
