@@ -138,43 +138,57 @@ fn word_fields(rest: &[u8]) -> Option<(&[u8], u8)>
     Some((x, relation))
 }
 
-// The triple of X, Y and the digits of a relation.
-fn word_triple<'a>(x: &'a [u8], y: &'a [u8], digits: &[u8]) -> Option<WordTriple<'a, u8>>
-    ensures relation { option_map (λ w. w.relation) result ≡ number_read 255 digits.now }
-    ensures words { IfSome result (λ w. (w.x.now ≡ x.now) × (w.y.now ≡ y.now)) }
-{
-    relation_in(digits).map(|relation| WordTriple { x, relation, y })
-}
-
 // The fields of D, F and S: X, Y and the relation.
-fn triple_fields(rest: &[u8]) -> Option<WordTriple<'_, u8>>
-    ensures { option_map (λ w. (w.x.now, w.y.now, w.relation)) result ≡ pair_fields (fields rest.now) }
+fn triple_fields(rest: &[u8]) -> Option<(&[u8], &[u8], u8)>
+    ensures { option_map (λ p. (p.0.now, p.1.now, p.2)) result ≡ pair_fields (fields rest.now) }
 {
     let (x, y, digits) = three(rest)?;
-    word_triple(x, y, digits)
+    let relation = relation_in(digits)?;
+    Some((x, y, relation))
 }
 
 // The fields of A and T: X, Y, the relation and the count.
-fn count_fields(rest: &[u8]) -> Option<(WordTriple<'_, u8>, u32)>
-    ensures { option_map (λ p. (p.0.x.now, p.0.y.now, p.0.relation, p.1)) result ≡ count_fields (fields rest.now) }
+fn count_fields(rest: &[u8]) -> Option<(&[u8], &[u8], u8, u32)>
+    ensures { option_map (λ p. (p.0.now, p.1.now, p.2, p.3)) result ≡ count_fields (fields rest.now) }
 {
     let (x, y, digits, more) = four(rest)?;
-    let words = word_triple(x, y, digits)?;
+    let relation = relation_in(digits)?;
     let count = number_read(more, LAST_COUNT)?;
-    Some((words, count))
+    Some((x, y, relation, count))
 }
 
-// What a letter with its fields asks for.
+// What a letter with its fields asks for. The words are put together where the command is, since each move
+// of a triple that is put together costs as much as reading a field.
 fn letter_asks(letter: char, rest: &[u8]) -> Option<Command<'_>>
     ensures { option_map seen result ≡ letter_asks letter (fields rest.now) }
 {
     match letter {
-        'A' => count_fields(rest).map(|(words, count)| Command::Add { words, count }),
-        'T' => count_fields(rest).map(|(words, count)| Command::Tie { words, count }),
-        'D' => triple_fields(rest).map(Command::Delete),
-        'F' => triple_fields(rest).map(Command::Find),
-        'S' => triple_fields(rest).map(Command::Share),
-        'L' => word_fields(rest).map(|(x, relation)| Command::List { x, relation }),
+        'A' => {
+            let (x, y, relation, count) = count_fields(rest)?;
+            let words = WordTriple { x, relation, y };
+            Some(Command::Add { words, count })
+        }
+        'T' => {
+            let (x, y, relation, count) = count_fields(rest)?;
+            let words = WordTriple { x, relation, y };
+            Some(Command::Tie { words, count })
+        }
+        'D' => {
+            let (x, y, relation) = triple_fields(rest)?;
+            Some(Command::Delete(WordTriple { x, relation, y }))
+        }
+        'F' => {
+            let (x, y, relation) = triple_fields(rest)?;
+            Some(Command::Find(WordTriple { x, relation, y }))
+        }
+        'S' => {
+            let (x, y, relation) = triple_fields(rest)?;
+            Some(Command::Share(WordTriple { x, relation, y }))
+        }
+        'L' => {
+            let (x, relation) = word_fields(rest)?;
+            Some(Command::List { x, relation })
+        }
         _ => None,
     }
 }

@@ -12,10 +12,11 @@ ghost use Rattle.entry.specs.Entries.{entry_in, EntryLeaves, KeepsNumbers, label
 
 mod meanings;
 
+use arrayvec::ArrayVec;
 use lexicon::{GrowingList, ReadableList};
 pub use meanings::meaning;
 use refusal::{Refusal, Report};
-use script::{Script, spell_word};
+use script::{Script, spell_into};
 use std::fmt;
 
 // The number of a word that was entered, and whether the list had it before.
@@ -34,7 +35,8 @@ pub fn enter_word<S: Script, L: GrowingList>(list: &mut L, word: &[S]) -> Result
     ensures numbers { KeepsNumbers S.Script.spelling (L.ReadableList.roll list.old) word.now (L.ReadableList.roll list.new)
         result }
 {
-    let labels = spell_word(word)?;
+    let mut labels = ArrayVec::new();
+    spell_into(word, &mut labels)?;
     let before = list.count();
     let number = list.enter(labels.as_slice())?;
     if number > before {

@@ -54,29 +54,3 @@ done_text (Share share) = number_text share 10
 abbrev pub answer_text : Result LineAnswer Refusal → List ℕ
 answer_text (Ok answer) = done_text answer
 answer_text (Err refusal) = report_line (report_of refusal)
-
--- the last line of what a command answers: of a listing, how many rows there are
-abbrev pub done_line : LineAnswer → List ℕ
-done_line Done = codes "ok\n"
-done_line (Found x y count) = three_text x y count
-done_line Absent = codes "none\n"
-done_line (Listing rows) = codes "end\t" ++ number_text (length (printed_rows rows)) 10
-done_line (Share share) = number_text share 10
-
--- the last line of what is printed of an answer
-abbrev pub last_line : Result LineAnswer Refusal → List ℕ
-last_line (Ok answer) = done_line answer
-last_line (Err refusal) = report_line (report_of refusal)
-
--- the rows of what a command answers, a line each, before the last line
-abbrev pub done_rows : LineAnswer → List LineRow
-done_rows Done = []
-done_rows (Found x y count) = []
-done_rows Absent = []
-done_rows (Listing rows) = printed_rows rows
-done_rows (Share share) = []
-
--- the rows of what is printed of an answer
-abbrev pub listed_rows : Result LineAnswer Refusal → List LineRow
-listed_rows (Ok answer) = done_rows answer
-listed_rows (Err refusal) = []

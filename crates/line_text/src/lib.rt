@@ -5,10 +5,10 @@
 // The rules stand in docs/LINES.md.
 #![tactic(auto)]
 
-ghost use Rattle.std.specs.Prelude.{◌≡◌, ◌+◌, ◌*◌, ◌≤◌, [], ◌++◌, length, if◌then◌else◌, Some, None, nat_le};
+ghost use Rattle.std.specs.Prelude.{◌≡◌, ◌+◌, ◌*◌, ◌≤◌, ◌++◌, length, if◌then◌else◌, Some, None, nat_le};
 ghost use Rattle.std.specs.List.{flat_map};
 ghost use Rattle.output.specs.Written.{written};
-ghost use Rattle.line_text.specs.Texts.{number_text, three_text, row_text, report_line, done_line, last_line, listed_rows, answer_text, with_text};
+ghost use Rattle.line_text.specs.Texts.{number_text, three_text, row_text, rows_text, report_line, done_text, answer_text, with_text};
 
 use arrayvec::ArrayVec;
 use itoa::Buffer;
@@ -75,60 +75,6 @@ fn put_three(text: &mut Text, a: u32, b: u32, c: u32)
     put_field(text, c, b'\n');
 }
 
-// Puts a refusal: its number, its layer and its side.
-fn put_report(text: &mut Text, report: Report)
-    requires { text.old.items ≡ [] }
-    ensures { text.new.items ≡ report_line report }
-{
-    put_text(text, b"no\t");
-    put_three(
-        text,
-        report.number as u32,
-        report.layer as u32,
-        report.side as u32,
-    );
-}
-
-// Puts the last line of what a command answers: of a listing, how many rows there are.
-fn put_answer(text: &mut Text, answer: &LineAnswer)
-    requires { text.old.items ≡ [] }
-    ensures { text.new.items ≡ done_line answer.now }
-{
-    match *answer {
-        LineAnswer::Done => put_text(text, b"ok\n"),
-        LineAnswer::Found { x, y, count } => put_three(text, x as u32, y as u32, count),
-        LineAnswer::Absent => put_text(text, b"none\n"),
-        LineAnswer::Listing(rows) => {
-            put_text(text, b"end\t");
-            put_field(text, rows.as_slice().len() as u32, b'\n');
-        }
-        LineAnswer::Share(share) => put_field(text, share, b'\n'),
-    }
-}
-
-// The last line of what is printed of an answer.
-fn last_line(answer: &Result<LineAnswer, Refusal>) -> Text
-    ensures line { result.items ≡ last_line answer.now }
-{
-    let mut text = Text::new();
-    match answer {
-        Ok(done) => put_answer(&mut text, done),
-        Err(refusal) => put_report(&mut text, refusal.report()),
-    }
-    text
-}
-
-// The rows that are printed of an answer: none but of a listing.
-fn listed_rows(answer: &Result<LineAnswer, Refusal>) -> &[LineRow]
-    ensures rows { result.now ≡ listed_rows answer.now }
-    ensures few { length result.now ≤ 100 }
-{
-    match answer {
-        Ok(LineAnswer::Listing(rows)) => rows.as_slice(),
-        _ => &[],
-    }
-}
-
 // Writes a line from a place on, and answers where it ends.
 fn write_line(out: &mut [u8], at: usize, line: &[u8]) -> usize
     requires { at + length line.now ≤ length out.old }
@@ -154,6 +100,54 @@ fn write_rows(out: &mut [u8], rows: &[LineRow]) -> usize
     at
 }
 
+// Writes a listing: its rows, and how many there are.
+fn write_listing(out: &mut [u8], rows: &[LineRow]) -> usize
+    requires room { 4096 ≤ length out.old }
+    requires few { length rows.now ≤ 100 }
+    ensures end { result ≡ length (rows_text rows.now) }
+    ensures after { out.new ≡ written out.old 0 (rows_text rows.now) }
+{
+    let at = write_rows(out, rows);
+    let mut text = Text::new();
+    put_text(&mut text, b"end\t");
+    put_field(&mut text, rows.len() as u32, b'\n');
+    write_line(out, at, text.as_slice())
+}
+
+// Writes a refusal: its number, its layer and its side.
+fn write_report(out: &mut [u8], report: Report) -> usize
+    requires { 4096 ≤ length out.old }
+    ensures end { result ≡ length (report_line report) }
+    ensures after { out.new ≡ written out.old 0 (report_line report) }
+{
+    let mut line = Text::new();
+    put_text(&mut line, b"no\t");
+    put_three(
+        &mut line,
+        report.number as u32,
+        report.layer as u32,
+        report.side as u32,
+    );
+    write_line(out, 0, line.as_slice())
+}
+
+// Writes what a command answers.
+fn write_done(out: &mut [u8], answer: LineAnswer) -> usize
+    requires { 4096 ≤ length out.old }
+    ensures end { result ≡ length (done_text answer) }
+    ensures after { out.new ≡ written out.old 0 (done_text answer) }
+{
+    let mut text = Text::new();
+    match answer {
+        LineAnswer::Done => put_text(&mut text, b"ok\n"),
+        LineAnswer::Found { x, y, count } => put_three(&mut text, x as u32, y as u32, count),
+        LineAnswer::Absent => put_text(&mut text, b"none\n"),
+        LineAnswer::Listing(rows) => return write_listing(out, rows.as_slice()),
+        LineAnswer::Share(share) => put_field(&mut text, share, b'\n'),
+    }
+    write_line(out, 0, text.as_slice())
+}
+
 // Writes what is printed of an answer from the start of the output on, and answers how many bytes
 // that are; the rest stays. Where the output has fewer than 4,096 bytes it writes nothing.
 pub fn write_answer(answer: &Result<LineAnswer, Refusal>, out: &mut [u8]) -> Option<usize>
@@ -163,7 +157,8 @@ pub fn write_answer(answer: &Result<LineAnswer, Refusal>, out: &mut [u8]) -> Opt
     if out.len() < TEXT_BYTES {
         return None;
     }
-    let at = write_rows(out, listed_rows(answer));
-    let text = last_line(answer);
-    Some(write_line(out, at, text.as_slice()))
+    match *answer {
+        Ok(done) => Some(write_done(out, done)),
+        Err(refusal) => Some(write_report(out, refusal.report())),
+    }
 }

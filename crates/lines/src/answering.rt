@@ -36,21 +36,23 @@ fn done(
     Ok(LineAnswer::Done)
 }
 
-// What is printed of a link that was sought.
+// What is printed of a link that was sought. By cases, here and below: an answer has room for 100 rows, and each
+// `?` that hands out a refusal in its place moves that room once more.
 fn found_answer(
     records: &[Tally],
     reply: Result<Reply<Tally>, Refusal>,
 ) -> Result<LineAnswer, Refusal>
     ensures { answer_text result ≡ found_text records.now reply }
 {
-    let Reply::Found(Some(link)) = reply? else {
-        return Ok(LineAnswer::Absent);
-    };
-    Ok(LineAnswer::Found {
-        x: link.x,
-        y: link.y,
-        count: count_at(records, link.number),
-    })
+    match reply {
+        Ok(Reply::Found(Some(link))) => Ok(LineAnswer::Found {
+            x: link.x,
+            y: link.y,
+            count: count_at(records, link.number),
+        }),
+        Ok(_) => Ok(LineAnswer::Absent),
+        Err(refusal) => Err(refusal),
+    }
 }
 
 // Finds a triple, with its count.
@@ -78,11 +80,12 @@ fn listed_answer(
 ) -> Result<LineAnswer, Refusal>
     ensures { answer_text result ≡ listed_text records.now rows.now reply }
 {
-    match reply? {
-        Reply::Listed(count) if count <= ROW_PLACES => {
+    match reply {
+        Ok(Reply::Listed(count)) if count <= ROW_PLACES => {
             Ok(LineAnswer::Listing(counted_rows(records, &rows[..count])))
         }
-        _ => Ok(LineAnswer::Absent),
+        Ok(_) => Ok(LineAnswer::Absent),
+        Err(refusal) => Err(refusal),
     }
 }
 
@@ -115,7 +118,7 @@ fn shared(
         (Some (share_asked words.entry.x.now words.entry.y.now words.entry.relation)) (answer_text result)
         (state_of list.now table.now records.now) }
 {
-    share(table, list, records, words).map(LineAnswer::Share)
+    Ok(LineAnswer::Share(share(table, list, records, words)?))
 }
 
 // Carries out a command and says what is to be printed.

@@ -32,8 +32,10 @@ fn answer_line(
     ensures { Carried (state_of list.old table.old records.old) (asked_by line.now) (answer_text result)
         (state_of list.new table.new records.new) }
 {
-    let command = parse(line)?;
-    answer(table, list, records, command)
+    match parse(line) {
+        Ok(command) => answer(table, list, records, command),
+        Err(refusal) => Err(refusal),
+    }
 }
 
 // Carries out one line, given without its line feed: writes what is to be printed to `out` from its

@@ -6,7 +6,7 @@
 // The rules stand in docs/SCRIPTS.md.
 #![tactic(auto)]
 
-ghost use Rattle.std.specs.Prelude.{◌≡◌, ℕ, ◌≤◌, List, length, IfOk};
+ghost use Rattle.std.specs.Prelude.{◌≡◌, ℕ, ◌≤◌, List, length, IfOk, OnOk, OnErr};
 ghost use Rattle.std.specs.Result.{result_map_both};
 ghost use Rattle.script.specs.Words.{word_sized, spell_answer, WordsApart};
 
@@ -56,6 +56,26 @@ pub fn has_word_size<S: Script>(word: &[S]) -> bool
     1 <= word.len() && word.len() <= 32
 }
 
+// Spells a word into a vector that is lent: it holds the labels of the word's symbols then, one symbol's after
+// another's. A word of no symbol or of more than 32 is refused, and the vector stays as it was.
+pub fn spell_into<S: Script>(word: &[S], labels: &mut ArrayVec<u8, 128>) -> Result<(), SpellFault>
+    ensures answer { result_map_both (λ _. labels.new.items) (λ e. e) result ≡ spell_answer S.Script.spelling word.now }
+    ensures kept { OnErr result (labels.new.items ≡ labels.old.items) }
+    ensures sized { OnOk result ((1 ≤ length labels.new.items) × (length labels.new.items ≤ 128)) }
+    ensures apart { WordsApart S.Script.spelling }
+{
+    if !has_word_size(word) {
+        return Err(SpellFault::WordLength);
+    }
+    labels.clear();
+    for symbol in word {
+        let spelling = symbol.spell();
+        // 32 symbols of at most 4 labels fit.
+        labels.try_extend_from_slice(spelling.as_slice()).unwrap();
+    }
+    Ok(())
+}
+
 // The labels of a word, those of one symbol after another. A word of no symbol or of more than 32 is
 // refused.
 pub fn spell_word<S: Script>(word: &[S]) -> Result<ArrayVec<u8, 128>, SpellFault>
@@ -63,14 +83,7 @@ pub fn spell_word<S: Script>(word: &[S]) -> Result<ArrayVec<u8, 128>, SpellFault
     ensures sized { IfOk result (λ v. (1 ≤ length v.items) × (length v.items ≤ 128)) }
     ensures apart { WordsApart S.Script.spelling }
 {
-    if !has_word_size(word) {
-        return Err(SpellFault::WordLength);
-    }
     let mut labels = ArrayVec::new();
-    for symbol in word {
-        let spelling = symbol.spell();
-        // 32 symbols of at most 4 labels fit.
-        labels.try_extend_from_slice(spelling.as_slice()).unwrap();
-    }
+    spell_into(word, &mut labels)?;
     Ok(labels)
 }

@@ -6,11 +6,12 @@ ghost use Rattle.lexicon.specs.Rolls.{number_of};
 ghost use Rattle.lexicon.specs.Growths.{growth_of};
 ghost use Rattle.store.specs.Words.{SizeTested, WordsTested, Admitted, KnownWords, EnteredWord};
 
+use arrayvec::ArrayVec;
 use lexicon::{GrowingList, ReadableList};
 use link_table::Triple;
 use record::Record;
 use refusal::{Refusal, Side};
-use script::{Script, WordTriple, has_word_size, spell_word};
+use script::{Script, WordTriple, has_word_size, spell_into};
 
 // The word on a side has 1 to 32 symbols, or is refused.
 pub(super) fn test_size<S: Script>(word: &[S], side: Side) -> Result<(), Refusal>
@@ -55,10 +56,9 @@ pub(super) fn number_in<S: Script, L: ReadableList>(list: &L, word: &[S]) -> Opt
     requires { word_sized word.now ≡ true }
     ensures { result ≡ number_of (L.ReadableList.roll list.now) (spelled S.Script.spelling word.now) }
 {
-    match spell_word(word) {
-        Ok(labels) => list.find(labels.as_slice()).unwrap_or(None),
-        Err(_) => None,
-    }
+    let mut labels = ArrayVec::new();
+    spell_into(word, &mut labels).ok()?;
+    list.find(labels.as_slice()).unwrap_or(None)
 }
 
 // The triple of two words that the list has. Refused, in this order: X or Y is not in the list.
@@ -87,7 +87,8 @@ pub(super) fn enter<S: Script, L: GrowingList>(
     ensures { EnteredWord L.ReadableList.roll (growth_of L.GrowingList) list.old (spelled S.Script.spelling word.now)
         side result list.new }
 {
-    let labels = spell_word(word).map_err(|fault| Refusal::of_spelling(fault, side))?;
+    let mut labels = ArrayVec::new();
+    spell_into(word, &mut labels).map_err(|fault| Refusal::of_spelling(fault, side))?;
     list.enter(labels.as_slice())
         .map_err(|fault| Refusal::of_list(fault, side))
 }

@@ -6,7 +6,7 @@ use Rattle.entry.proofs.enter_word.Goals as goal
 
 pub returns-then-number-before : goal.returns-then-number-before
 returns-then-number-before g c =
-    let m = c.in_ok-labels.ensures in
+    let m = c.in_ok-spell_into.ensures in
     let fit = spelled_slice g.S.Script.spelling c.args.word.now _ _ c.as_slice.ensures.value m.answer m.sized in
     let all = told g.S.Script.spelling g.L.ReadableList.roll g.L.GrowingList.room g.L.GrowingList.enters c.args.list.now c.args.word.now c.enter.new.self
     m.apart _ fit c.count-before.result (Ok c.in_ok-number.number) c.count-before.ensures.count

@@ -1,5 +1,5 @@
 use Rattle.script.proofs.Apart.{words_apart}
-use Rattle.script.proofs.spell_word.Goals as goal
+use Rattle.script.proofs.spell_into.Goals as goal
 
 pub returns-then-not-has_word_size-clause-apart : goal.returns-then-not-has_word_size-clause-apart
 returns-then-not-has_word_size-clause-apart g c =

@@ -1,6 +1,6 @@
 use Rattle.std.proofs.Common.{◌≡◌, ◌*◌, ◌≤◌, length, take}
 use Rattle.script.specs.Words.{spelled}
-use Rattle.script.proofs.spell_word.Given as goal
+use Rattle.script.proofs.spell_into.Given as goal
 
 abbrev pub invariant-loop-symbol : goal.invariant-loop-symbol
 invariant-loop-symbol g l =
