@@ -24,7 +24,7 @@ pub use rows::{LineRow, LineRows, ROW_PLACES};
 // The least bytes that an output has.
 pub const TEXT_BYTES: usize = 4096;
 
-// The most bytes that a line of a text has: `no` and a tab, and three numbers with a byte after each.
+// No line of a text has more bytes: `no` and a tab, and three numbers of ten digits with a byte after each.
 const LINE_BYTES: usize = 36;
 
 // A line of a text as it is put together. That is done by functions that cannot fail and not by `Display`: its

@@ -36,8 +36,8 @@ fn done(
     Ok(LineAnswer::Done)
 }
 
-// What is printed of a link that was sought. By cases, here and below: an answer has room for 100 rows, and each
-// `?` that hands out a refusal in its place moves that room once more.
+// What is printed of a link that was sought. By cases, as in `listed_answer` and `answer_line`: an answer has room
+// for 100 rows, and a `?` there moves that room once more.
 fn found_answer(
     records: &[Tally],
     reply: Result<Reply<Tally>, Refusal>,

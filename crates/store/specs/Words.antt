@@ -21,9 +21,9 @@ WordsTested x y q (Ok _) = first (word_refusals x y q) ≡ None
 WordsTested x y q (Err e) = first (word_refusals x y q) ≡ Some e
 
 -- the same with a record that is to be sound
-abbrev pub Admitted : {S : Type 0} → List S → List S → ℕ → Bool → Result (Unit {0}) Refusal → Type 0
-Admitted x y q good (Ok _) = first (put_refusals x y q good) ≡ None
-Admitted x y q good (Err e) = first (put_refusals x y q good) ≡ Some e
+abbrev pub NewTested : {S : Type 0} → List S → List S → ℕ → Bool → Result (Unit {0}) Refusal → Type 0
+NewTested x y q good (Ok _) = first (put_refusals x y q good) ≡ None
+NewTested x y q good (Err e) = first (put_refusals x y q good) ≡ Some e
 
 -- the triple of two words that have the numbers a and b, or the first of them that has none
 abbrev pub KnownTriple : Option ℕ → Option ℕ → ℕ → Result Triple Refusal → Type 0

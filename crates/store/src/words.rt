@@ -4,7 +4,7 @@ ghost use Rattle.std.specs.Prelude.{◌≡◌, true};
 ghost use Rattle.script.specs.Words.{word_sized, spelled};
 ghost use Rattle.lexicon.specs.Rolls.{number_of};
 ghost use Rattle.lexicon.specs.Growths.{growth_of};
-ghost use Rattle.store.specs.Words.{SizeTested, WordsTested, Admitted, KnownWords, EnteredWord};
+ghost use Rattle.store.specs.Words.{SizeTested, WordsTested, NewTested, KnownWords, EnteredWord};
 
 use arrayvec::ArrayVec;
 use lexicon::{GrowingList, ReadableList};
@@ -23,8 +23,8 @@ pub(super) fn test_size<S: Script>(word: &[S], side: Side) -> Result<(), Refusal
     Ok(())
 }
 
-// The words and the relation of a triple. Both lengths are looked at before a word is spelled. Refused, in
-// this order: X or Y has the wrong length, the relation is 0.
+// The words and the relation of a triple, before a word is spelled. Refused, in this order: X or Y has the
+// wrong length, the relation is 0.
 pub(super) fn test_words<S: Script>(words: WordTriple<'_, S>) -> Result<(), Refusal>
     ensures { WordsTested words.entry.x.now words.entry.y.now words.entry.relation result }
 {
@@ -42,7 +42,7 @@ pub(super) fn admit<S: Script, R: Record>(
     words: WordTriple<'_, S>,
     record: &R,
 ) -> Result<(), Refusal>
-    ensures { Admitted words.entry.x.now words.entry.y.now words.entry.relation (R.Record.sound «record».now) result }
+    ensures { NewTested words.entry.x.now words.entry.y.now words.entry.relation (R.Record.sound «record».now) result }
 {
     test_words(words)?;
     if !record.is_sound() {
